@@ -1,0 +1,19 @@
+-- How counts join: as the numbers modulo 2^32. Assumes nothing.
+use Prim.Native.Nat.{ℕ, _+_, _-_, _%_, _^_}
+use Rattle.kinds.specs.declared.entry.Counts.{Counts}
+use native.Mathlib.Omega.{arith}
+
+-- what a number is modulo 2^32, as an entry
+abbrev residue : ℕ → Counts
+residue n = record { value = n % 2 ^ 32; fits = omega arith }
+
+abbrev pub none : Counts
+none = residue 0
+
+-- the sum modulo 2^32
+abbrev pub both : Counts → Counts → Counts
+both a b = residue (a .value + b .value)
+
+-- what is missing to 2^32
+abbrev pub back : Counts → Counts
+back a = residue (2 ^ 32 - a .value)

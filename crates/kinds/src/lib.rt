@@ -1,0 +1,42 @@
+//! Kinds of entry: what the entries of a book are, how each is numbered and how entries join; and
+//! the numbered refusals of the whole product.
+mod counts;
+mod entry;
+mod faults;
+mod flags;
+mod laws;
+mod memory;
+mod refusal;
+mod steps;
+
+pub use counts::CountsKind;
+pub use counts::CountsReckoned;
+pub use entry::Counts;
+pub use entry::CountsDebug;
+pub use entry::CountsEq;
+pub use entry::CountsPartialEq;
+pub use entry::Faults;
+pub use entry::FaultsDebug;
+pub use entry::FaultsEq;
+pub use entry::FaultsPartialEq;
+pub use entry::Flags;
+pub use entry::FlagsDebug;
+pub use entry::FlagsEq;
+pub use entry::FlagsPartialEq;
+pub use entry::Steps;
+pub use entry::StepsDebug;
+pub use entry::StepsEq;
+pub use entry::StepsPartialEq;
+pub use faults::FaultsKind;
+pub use flags::FlagsKind;
+pub use flags::FlagsReckoned;
+pub use laws::Kind;
+pub use laws::Reckoned;
+pub use memory::RefusalFromAlloc;
+pub use memory::RefusalFromRefused;
+pub use refusal::Refusal;
+pub use refusal::RefusalDebug;
+pub use refusal::RefusalEq;
+pub use refusal::RefusalPartialEq;
+pub use steps::StepsKind;
+pub use steps::StepsReckoned;

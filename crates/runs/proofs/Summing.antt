@@ -1,0 +1,33 @@
+-- The totals of a run, one entry after another. Assumes nothing.
+use Prim.Native.Nat.{ℕ, _+_, _-_, _<_}
+use Rattle.kinds.proofs.Joins.{total-next}
+use Rattle.kinds.specs.Totals.{total, Group}
+use Rattle.kinds.specs.declared.laws.Reckoned.{Ghosts}
+use Rattle.runs.proofs.Placed.{entry-next}
+use Rattle.runs.specs.Places.{entry-at, running}
+use Rattle.std.proofs.shelf.Counted.{map-counting-more}
+use Rattle.std.specs.Iters.{counting}
+use Rattle.std.specs.declared.result.Result.the-variants.{Ok}
+use lib.ListN.{length, take}
+use mathlib.Core.List.{List, [], _∷_, _++_, map}
+use mathlib.Core.Path.{_≡_, sym, ap, _∙_}
+use native.Mathlib.Omega.{arith}
+
+module _ {K : Type 0} (R : Ghosts K) (xs : List K) (i : ℕ) where
+  -- the next entry joined to the total before it
+  pub total-read : (e s : K) → Group R → i < length xs → entry-at xs (i + 1) ≡ Ok e → s ≡ total R (take i xs) → R .join s e ≡ total R (take (i + 1) xs)
+  total-read e s laws within is sum =
+      ap (λ t. R .join t e) sum ∙ sym (total-next laws xs i e within (entry-next xs i e within is))
+
+  -- one total more
+  pub running-more : (ts : List K) (t : K) → ts ≡ map (λ j. total R (take j xs)) (counting 1 i) → t ≡ total R (take (i + 1) xs) → ts ++ (t ∷ []) ≡ map (λ j. total R (take j xs)) (counting 1 (i + 1))
+  running-more ts t before here =
+      let f : ℕ → K = λ j. total R (take j xs) in
+      ap (λ l. l ++ (t ∷ [])) before
+      ∙ ap (λ y. map f (counting 1 i) ++ (y ∷ [])) here
+      ∙ sym (map-counting-more f 1 i (i + 1) (omega arith))
+
+-- all the totals
+pub running-all : {K : Type 0} (R : Ghosts K) (xs ts : List K) (n : ℕ) → n ≡ length xs → ts ≡ map (λ j. total R (take j xs)) (counting 1 n) → ts ≡ running R xs
+unfolding running
+running-all R xs ts n whole is = is ∙ ap (λ m. map (λ j. total R (take j xs)) (counting 1 m)) whole

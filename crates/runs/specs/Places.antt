@@ -1,0 +1,26 @@
+-- Reading a run at a place, and its totals on the way. Assumes nothing.
+use Prim.Native.Nat.{ℕ, zero, suc}
+use Rattle.kinds.specs.Totals.{total}
+use Rattle.kinds.specs.declared.refusal.Refusal.{Refusal}
+use Rattle.kinds.specs.declared.refusal.Refusal.the-variants.{NoPlace}
+use Rattle.kinds.specs.declared.laws.Reckoned.{Ghosts}
+use Rattle.std.specs.Finite.{nth}
+use Rattle.std.specs.Options.{okOr}
+use Rattle.std.specs.Iters.{counting}
+use Rattle.std.specs.declared.result.Result.{Result}
+use Rattle.std.specs.declared.result.Result.the-variants.{Ok, Err}
+use lib.ListN.{length, take}
+use mathlib.Core.List.{List, [], _∷_, map}
+
+-- a table as a run: its first 4,294,967,295 entries, the most that a run has
+unfoldable pub cut : {K : Type 0} → List K → List K
+cut xs = take 4_294_967_295 xs
+
+-- what a run answers of a place: places count from 1, and where no entry stands it is refused with 1
+unfoldable pub entry-at : {K : Type 0} → List K → ℕ → Result K Refusal
+entry-at xs zero = Err NoPlace
+entry-at xs (suc i) = okOr (nth xs i) NoPlace
+
+-- the totals of the first 1, 2, 3 .. entries
+unfoldable pub running : {K : Type 0} → Ghosts K → List K → List K
+running R xs = map (λ i. total R (take i xs)) (counting 1 (length xs))
