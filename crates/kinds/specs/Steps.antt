@@ -1,6 +1,7 @@
 -- How steps are numbered and how they join. Assumes nothing.
 use Prim.Native.Nat.{ℕ, _+_, _*_}
 use Rattle.kinds.specs.declared.entry.Steps.{Steps}
+use Rattle.kinds.specs.declared.laws.Reckoned.{Ghosts}
 use Rattle.std.proofs.shelf.Signed.{sfits-wrapped}
 use Rattle.std.specs.shelf.Signed.{wrapped}
 use lib.IntN.{ℤ, pos, negsuc, _+ℤ_, negℤ}
@@ -25,3 +26,7 @@ both a b = read-back (a .value +ℤ b .value)
 -- the opposite modulo 2^32, read back as signed
 abbrev pub back : Steps → Steps
 back a = read-back (negℤ (a .value))
+
+-- the three together: how steps are reckoned
+abbrev pub reckoned : Ghosts Steps
+reckoned = record { zero = none; join = both; inverse = back }

@@ -1,5 +1,5 @@
 //! The kind flags: one byte, joining by exclusive or.
-ghost use Rattle.kinds.specs.Flags.{none, both};
+ghost use Rattle.kinds.specs.Flags.{none, both, back};
 use crate::entry::Flags;
 use crate::laws::Kind;
 use crate::laws::Reckoned;
@@ -39,8 +39,7 @@ pub impl Reckoned for Flags as FlagsReckoned {
 
     ghost join = { both };
 
-    // an entry is its own inverse
-    ghost inverse = { λ e. e };
+    ghost inverse = { back };
 
     fn zero() -> Flags {
         Flags::new(0)

@@ -1,13 +1,15 @@
 -- The totals of a run, one entry after another. Assumes nothing.
-use Prim.Native.Nat.{ℕ, _+_, _-_, _<_}
+use Prim.Native.Nat.{ℕ, _+_, _≤_, _<_}
 use Rattle.kinds.proofs.Joins.{total-next}
 use Rattle.kinds.specs.Totals.{total, Group}
 use Rattle.kinds.specs.declared.laws.Reckoned.{Ghosts}
+use Rattle.kinds.specs.declared.refusal.Refusal.the-variants.{NoPlace}
 use Rattle.runs.proofs.Placed.{entry-next}
-use Rattle.runs.specs.Places.{entry-at, running}
+use Rattle.runs.specs.Places.{entry-at, running, total-at}
 use Rattle.std.proofs.shelf.Counted.{map-counting-more}
 use Rattle.std.specs.Iters.{counting}
-use Rattle.std.specs.declared.result.Result.the-variants.{Ok}
+use Rattle.std.specs.declared.result.Result.the-variants.{Ok, Err}
+use borrow.Author.Tests.{le-leb, lt-leb}
 use lib.ListN.{length, take}
 use mathlib.Core.List.{List, [], _∷_, _++_, map}
 use mathlib.Core.Path.{_≡_, sym, ap, _∙_}
@@ -31,3 +33,12 @@ module _ {K : Type 0} (R : Ghosts K) (xs : List K) (i : ℕ) where
 pub running-all : {K : Type 0} (R : Ghosts K) (xs ts : List K) (n : ℕ) → n ≡ length xs → ts ≡ map (λ j. total R (take j xs)) (counting 1 n) → ts ≡ running R xs
 unfolding running
 running-all R xs ts n whole is = is ∙ ap (λ m. map (λ j. total R (take j xs)) (counting 1 m)) whole
+
+-- the total of the first i entries, where there are so many and where not
+pub total-there : {K : Type 0} (R : Ghosts K) (xs : List K) (i : ℕ) → i ≤ length xs → total-at R xs i ≡ Ok (total R (take i xs))
+unfolding total-at
+total-there R xs i h = rw (le-leb i (length xs) h)
+
+pub total-past : {K : Type 0} (R : Ghosts K) (xs : List K) (i : ℕ) → length xs < i → total-at R xs i ≡ Err NoPlace
+unfolding total-at
+total-past R xs i h = rw (lt-leb i (length xs) h)

@@ -1,2 +1,3 @@
 pub mod Few
 pub mod Places
+pub mod Positions

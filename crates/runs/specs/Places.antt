@@ -9,7 +9,9 @@ use Rattle.std.specs.Options.{okOr}
 use Rattle.std.specs.Iters.{counting}
 use Rattle.std.specs.declared.result.Result.{Result}
 use Rattle.std.specs.declared.result.Result.the-variants.{Ok, Err}
+use lib.Dec.{leb}
 use lib.ListN.{length, take}
+use mathlib.Core.Bool.{cond}
 use mathlib.Core.List.{List, [], _∷_, map}
 
 -- a table as a run: its first 4,294,967,295 entries, the most that a run has
@@ -24,3 +26,7 @@ entry-at xs (suc i) = okOr (nth xs i) NoPlace
 -- the totals of the first 1, 2, 3 .. entries
 unfoldable pub running : {K : Type 0} → Ghosts K → List K → List K
 running R xs = map (λ i. total R (take i xs)) (counting 1 (length xs))
+
+-- the total of the first i entries, refused with 1 where there are not so many
+unfoldable pub total-at : {K : Type 0} → Ghosts K → List K → ℕ → Result K Refusal
+total-at R xs i = cond (leb i (length xs)) (Ok (total R (take i xs))) (Err NoPlace)

@@ -2,14 +2,21 @@
 mod excerpt;
 mod layer;
 mod meaning;
+mod parting;
+
 mod reading;
 mod table;
 mod totals;
+mod walk;
 
 pub use excerpt::Excerpt;
 pub use excerpt::ExcerptRun;
 pub use layer::TotalsRun;
 pub use meaning::Run;
+pub use parting::Parting;
+pub use walk::first_parting;
+pub use walk::position;
+pub use walk::total;
 pub use table::TableRun;
 pub use totals::Totals;
 

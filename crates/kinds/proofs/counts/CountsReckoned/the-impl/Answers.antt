@@ -1,18 +1,17 @@
-use Rattle.kinds.proofs.Entries.{same-counts}
+use Rattle.kinds.proofs.Entries.{counts-group}
 use Rattle.kinds.proofs.counts.CountsReckoned.the-impl.Needs as need
-use native.Mathlib.Omega.{arith}
 
 pub associative-law : need.associative-law
-associative-law a b c = same-counts _ _ (omega arith)
+associative-law = counts-group .associative
 
 pub commutative-law : need.commutative-law
-commutative-law a b = same-counts _ _ (omega arith)
+commutative-law = counts-group .commutative
 
 pub left-law : need.left-law
-left-law a = same-counts _ _ (omega (arith, a .fits))
+left-law = counts-group .left
 
 pub right-law : need.right-law
-right-law a = same-counts _ _ (omega (arith, a .fits))
+right-law = counts-group .right
 
 pub cancels-law : need.cancels-law
-cancels-law a = same-counts _ _ (omega (arith, a .fits))
+cancels-law = counts-group .cancels

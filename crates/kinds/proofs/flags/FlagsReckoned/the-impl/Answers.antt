@@ -1,18 +1,17 @@
-use Rattle.kinds.proofs.Entries.{same-flags}
+use Rattle.kinds.proofs.Entries.{flags-group}
 use Rattle.kinds.proofs.flags.FlagsReckoned.the-impl.Needs as need
-use lib.Bits.{xor-assoc, xor-comm, xor-zero-l, xor-zero-r, xor-self}
 
 pub associative-law : need.associative-law
-associative-law a b c = same-flags _ _ (xor-assoc (a .value) (b .value) (c .value))
+associative-law = flags-group .associative
 
 pub commutative-law : need.commutative-law
-commutative-law a b = same-flags _ _ (xor-comm (a .value) (b .value))
+commutative-law = flags-group .commutative
 
 pub left-law : need.left-law
-left-law a = same-flags _ _ (xor-zero-l (a .value))
+left-law = flags-group .left
 
 pub right-law : need.right-law
-right-law a = same-flags _ _ (xor-zero-r (a .value))
+right-law = flags-group .right
 
 pub cancels-law : need.cancels-law
-cancels-law a = same-flags _ _ (xor-self (a .value))
+cancels-law = flags-group .cancels
