@@ -3,14 +3,14 @@ use Prim.Native.Nat.{ℕ, zero, suc, min, _+_, _-_, _^_, _≤_, _<_}
 use Rattle.kinds.specs.declared.refusal.Refusal.{Refusal}
 use Rattle.kinds.specs.declared.refusal.Refusal.the-variants.{NoPlace}
 use Rattle.runs.specs.Places.{entry-at, cut}
-use Rattle.std.proofs.shelf.Lists.{getD-take, getD-drop, getD-default, take-all, length-take, length-drop}
+use Rattle.std.proofs.shelf.Lists.{getD-take, getD-drop, getD-default, map-more, take-all, length-take, length-drop}
 use Rattle.std.proofs.shelf.Maps.{nth-read, nth-getD, nth-past}
 use Rattle.std.specs.Finite.{nth}
 use Rattle.std.specs.Options.{okOr}
 use Rattle.std.specs.declared.result.Result.{Result}
 use Rattle.std.specs.declared.result.Result.the-variants.{Ok, Err}
 use lib.ListN.{length, getD, take, drop}
-use mathlib.Core.List.{List, [], _∷_}
+use mathlib.Core.List.{List, [], _∷_, _++_, map}
 use mathlib.Core.Path.{_≡_, refl, sym, ap, _∙_}
 use native.Mathlib.Nat.{zero-add, suc-add, add-suc}
 use native.Mathlib.Omega.{arith}
@@ -89,3 +89,11 @@ length-cut xs = length-take 4_294_967_295 xs
 pub getD-cut : {K : Type 0} (xs : List K) (i : ℕ) (d : K) → i < 4_294_967_295 → getD (cut xs) i d ≡ getD xs i d
 unfolding cut
 getD-cut xs i d h = getD-take 4_294_967_295 xs i d h
+
+-- the number of one entry more
+pub number-next : {K : Type 0} (number : K → ℕ) (xs : List K) (i : ℕ) (e : K) (before : List ℕ) (n : ℕ) {after : List ℕ} → i < length xs → entry-at xs (i + 1) ≡ Ok e → n ≡ number e → before ≡ map number (take i xs) → after ≡ before ++ (n ∷ []) → after ≡ map number (take (i + 1) xs)
+number-next number xs i e before n within is named so pushed =
+    pushed
+    ∙ ap (λ l. l ++ (n ∷ [])) so
+    ∙ ap (λ m. map number (take i xs) ++ (m ∷ [])) (named ∙ ap number (entry-next xs i e within is))
+    ∙ sym (map-more number xs i e within)

@@ -1,3 +1,5 @@
 pub mod Few
 pub mod Places
 pub mod Positions
+pub mod Groups
+pub mod Tallies

@@ -5,7 +5,9 @@ mod meaning;
 mod parting;
 
 mod reading;
+mod records;
 mod table;
+mod tallying;
 mod totals;
 mod walk;
 
@@ -17,6 +19,11 @@ pub use parting::Parting;
 pub use walk::first_parting;
 pub use walk::position;
 pub use walk::total;
+pub use records::TallyRecord;
+pub use records::TallyRecordDebug;
+pub use records::TallyRecordEq;
+pub use records::TallyRecordPartialEq;
 pub use table::TableRun;
+pub use tallying::tally;
 pub use totals::Totals;
 
