@@ -1,6 +1,7 @@
 //! Runs of entries: any list of entries of one kind that can be counted and read at a place.
 mod excerpt;
 mod layer;
+mod lent;
 mod meaning;
 mod parting;
 
@@ -14,6 +15,7 @@ mod walk;
 pub use excerpt::Excerpt;
 pub use excerpt::ExcerptRun;
 pub use layer::TotalsRun;
+pub use lent::LentRun;
 pub use meaning::Run;
 pub use parting::Parting;
 pub use walk::first_parting;
