@@ -7,6 +7,7 @@ mod flags;
 mod laws;
 mod memory;
 mod refusal;
+mod shown;
 mod steps;
 
 pub use counts::CountsKind;
@@ -38,5 +39,7 @@ pub use refusal::Refusal;
 pub use refusal::RefusalDebug;
 pub use refusal::RefusalEq;
 pub use refusal::RefusalPartialEq;
+pub use shown::RefusalDisplay;
+pub use shown::RefusalError;
 pub use steps::StepsKind;
 pub use steps::StepsReckoned;

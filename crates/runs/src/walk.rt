@@ -2,6 +2,7 @@
 ghost use Rattle.kinds.specs.Steps.{reckoned};
 ghost use Rattle.runs.specs.Places.{total-at};
 ghost use Rattle.runs.specs.Positions.{Parts};
+ghost use lib.IntN.{_-ℤ_};
 ghost use mathlib.Core.Path.{_≡_};
 use crate::meaning::Run;
 use crate::parting::Parting;
@@ -53,4 +54,13 @@ pub fn first_parting<A: Run<Entry = Steps>, B: Run<Entry = Steps>>(a: &A, b: &B)
         }
     }
     None
+}
+
+impl Parting {
+    /// By how many steps the first run stands above the second, counted exactly.
+    pub fn gap(self) -> i64
+        ensures { λ r. ⌜ r ≡ self .first .value -ℤ self .second .value ⌝ }
+    {
+        i64::from(self.first.value()) - i64::from(self.second.value())
+    }
 }
