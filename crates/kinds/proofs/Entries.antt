@@ -1,9 +1,9 @@
 -- Entries of equal value are equal, and what joining them comes to. Assumes nothing.
 use Prim.Native.Nat.{ℕ, _+_, _-_, _%_, _^_, _≤_, _<_}
-use Rattle.kinds.specs.declared.entry.Counts.{Counts}
-use Rattle.kinds.specs.declared.entry.Faults.{Faults}
-use Rattle.kinds.specs.declared.entry.Flags.{Flags}
-use Rattle.kinds.specs.declared.entry.Steps.{Steps}
+use Rattle.kinds.specs.declared.counts.Counts.{Counts}
+use Rattle.kinds.specs.declared.faults.Faults.{Faults}
+use Rattle.kinds.specs.declared.flags.Flags.{Flags}
+use Rattle.kinds.specs.declared.steps.Steps.{Steps}
 use Rattle.kinds.specs.Counts as counts
 use Rattle.kinds.specs.Flags as flags
 use Rattle.kinds.specs.Steps as steps

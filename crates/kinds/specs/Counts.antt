@@ -1,6 +1,6 @@
 -- How counts join: as the numbers modulo 2^32. Assumes nothing.
 use Prim.Native.Nat.{ℕ, _+_, _-_, _%_, _^_}
-use Rattle.kinds.specs.declared.entry.Counts.{Counts}
+use Rattle.kinds.specs.declared.counts.Counts.{Counts}
 use Rattle.kinds.specs.declared.laws.Reckoned.{Ghosts}
 use native.Mathlib.Omega.{arith}
 

@@ -1,6 +1,6 @@
 -- How flags join: by exclusive or. Assumes nothing.
 use Prim.Native.Nat.{ℕ}
-use Rattle.kinds.specs.declared.entry.Flags.{Flags}
+use Rattle.kinds.specs.declared.flags.Flags.{Flags}
 use Rattle.kinds.specs.declared.laws.Reckoned.{Ghosts}
 use lib.Bits.{bitXor}
 use lib.Dec.{lit<}

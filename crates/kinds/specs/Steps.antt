@@ -1,6 +1,6 @@
 -- How steps are numbered and how they join. Assumes nothing.
 use Prim.Native.Nat.{ℕ, _+_, _*_}
-use Rattle.kinds.specs.declared.entry.Steps.{Steps}
+use Rattle.kinds.specs.declared.steps.Steps.{Steps}
 use Rattle.kinds.specs.declared.laws.Reckoned.{Ghosts}
 use Rattle.std.proofs.shelf.Signed.{sfits-wrapped}
 use Rattle.std.specs.shelf.Signed.{wrapped}

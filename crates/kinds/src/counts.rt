@@ -1,52 +1,31 @@
 //! The kind counts: 32-bit numbers, joining modulo 2^32.
-ghost use Rattle.kinds.specs.Counts.{none, both, back};
-use crate::entry::Counts;
-use crate::laws::Kind;
-use crate::laws::Reckoned;
+ghost use Prim.Native.Nat.{_<_, _^_};
+ghost use mathlib.Core.Path.{_≡_};
 
-pub impl Kind for Counts as CountsKind {
-    const WIDTH: u32 = 32;
-    const CODE: u8 = 1;
+mod kind;
 
-    ghost width = { 32 };
+pub use kind::CountsKind;
+pub use kind::CountsReckoned;
 
-    ghost code = { 1 };
-
-    ghost number = { λ e. e .value };
-
-    fn bits() -> u32 {
-        Self::WIDTH
-    }
-
-    fn kind_number() -> u8 {
-        Self::CODE
-    }
-
-    fn number(self) -> u32 {
-        self.value()
-    }
-
-    fn from_number(n: u32) -> Option<Counts> {
-        Some(Counts::new(n))
-    }
+/// An entry of the kind counts: 0 to 2^32 − 1.
+#[derive(Clone, Copy, PartialEq, Eq, Debug)]
+pub struct Counts {
+    value: u32,
+    ghost fits: { value < 2 ^ 32 },
 }
 
-pub impl Reckoned for Counts as CountsReckoned {
-    ghost zero = { none };
-
-    ghost join = { both };
-
-    ghost inverse = { back };
-
-    fn zero() -> Counts {
-        Counts::new(0)
+impl Counts {
+    /// The entry of this value.
+    pub fn new(value: u32) -> Self
+        ensures { λ r. ⌜ r .value ≡ value ⌝ }
+    {
+        Counts { value }
     }
 
-    fn join(self, other: Counts) -> Counts {
-        Counts::new(self.value().wrapping_add(other.value()))
-    }
-
-    fn inverse(self) -> Counts {
-        Counts::new(self.value().wrapping_neg())
+    /// The value of the entry.
+    pub fn value(self) -> u32
+        ensures { λ r. ⌜ r ≡ self .value ⌝ }
+    {
+        self.value
     }
 }

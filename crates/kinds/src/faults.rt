@@ -1,34 +1,35 @@
 //! The kind faults: eleven codes of four bits. They do not join.
-use crate::entry::Faults;
-use crate::laws::Kind;
+ghost use Prim.Native.Nat.{_≤_, _<_};
+ghost use Rattle.std.specs.Options.{Cases};
+ghost use mathlib.Core.Path.{_≡_};
 
-pub impl Kind for Faults as FaultsKind {
-    const WIDTH: u32 = 4;
-    const CODE: u8 = 4;
+mod kind;
 
-    ghost width = { 4 };
+pub use kind::FaultsKind;
 
-    ghost code = { 4 };
+/// An entry of the kind faults: 0 to 10.
+#[derive(Clone, Copy, PartialEq, Eq, Debug)]
+pub struct Faults {
+    value: u8,
+    ghost known: { value ≤ 10 },
+}
 
-    ghost number = { λ e. e .value };
-
-    fn bits() -> u32 {
-        Self::WIDTH
-    }
-
-    fn kind_number() -> u8 {
-        Self::CODE
-    }
-
-    fn number(self) -> u32 {
-        u32::from(self.value())
-    }
-
-    fn from_number(n: u32) -> Option<Faults> {
-        if n <= 10 {
-            Faults::new(n as u8)
+impl Faults {
+    /// The entry of this value; `None` exactly when the value is above 10.
+    pub fn new(value: u8) -> Option<Self>
+        ensures { λ r. ⌜ Cases r (10 < value) (λ e. e .value ≡ value) ⌝ }
+    {
+        if value <= 10 {
+            Some(Faults { value })
         } else {
             None
         }
+    }
+
+    /// The value of the entry.
+    pub fn value(self) -> u8
+        ensures { λ r. ⌜ r ≡ self .value ⌝ }
+    {
+        self.value
     }
 }

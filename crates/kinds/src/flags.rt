@@ -1,55 +1,31 @@
 //! The kind flags: one byte, joining by exclusive or.
-ghost use Rattle.kinds.specs.Flags.{none, both, back};
-use crate::entry::Flags;
-use crate::laws::Kind;
-use crate::laws::Reckoned;
+ghost use Prim.Native.Nat.{_<_, _^_};
+ghost use mathlib.Core.Path.{_≡_};
 
-pub impl Kind for Flags as FlagsKind {
-    const WIDTH: u32 = 8;
-    const CODE: u8 = 3;
+mod kind;
 
-    ghost width = { 8 };
+pub use kind::FlagsKind;
+pub use kind::FlagsReckoned;
 
-    ghost code = { 3 };
-
-    ghost number = { λ e. e .value };
-
-    fn bits() -> u32 {
-        Self::WIDTH
-    }
-
-    fn kind_number() -> u8 {
-        Self::CODE
-    }
-
-    fn number(self) -> u32 {
-        u32::from(self.value())
-    }
-
-    fn from_number(n: u32) -> Option<Flags> {
-        match u8::try_from(n) {
-            Ok(value) => Some(Flags::new(value)),
-            Err(_) => None,
-        }
-    }
+/// An entry of the kind flags: one byte.
+#[derive(Clone, Copy, PartialEq, Eq, Debug)]
+pub struct Flags {
+    value: u8,
+    ghost fits: { value < 2 ^ 8 },
 }
 
-pub impl Reckoned for Flags as FlagsReckoned {
-    ghost zero = { none };
-
-    ghost join = { both };
-
-    ghost inverse = { back };
-
-    fn zero() -> Flags {
-        Flags::new(0)
+impl Flags {
+    /// The entry of this value.
+    pub fn new(value: u8) -> Self
+        ensures { λ r. ⌜ r .value ≡ value ⌝ }
+    {
+        Flags { value }
     }
 
-    fn join(self, other: Flags) -> Flags {
-        Flags::new(self.value() ^ other.value())
-    }
-
-    fn inverse(self) -> Flags {
-        self
+    /// The value of the entry.
+    pub fn value(self) -> u8
+        ensures { λ r. ⌜ r ≡ self .value ⌝ }
+    {
+        self.value
     }
 }

@@ -1,62 +1,33 @@
 //! The kind steps: signed 32-bit drives, joining modulo 2^32.
-ghost use Rattle.kinds.specs.Steps.{zigzag, none, both, back};
-use crate::entry::Steps;
-use crate::laws::Kind;
-use crate::laws::Reckoned;
+ghost use Prim.Native.Nat.{_<_, _^_};
+ghost use lib.Signed.{mag};
+ghost use mathlib.Core.Path.{_≡_};
 
-pub impl Kind for Steps as StepsKind {
-    const WIDTH: u32 = 32;
-    const CODE: u8 = 2;
+mod kind;
 
-    ghost width = { 32 };
+pub use kind::StepsKind;
+pub use kind::StepsReckoned;
 
-    ghost code = { 2 };
-
-    ghost number = { λ e. zigzag (e .value) };
-
-    fn bits() -> u32 {
-        Self::WIDTH
-    }
-
-    fn kind_number() -> u8 {
-        Self::CODE
-    }
-
-    fn number(self) -> u32 {
-        let s = self.value();
-        if s < 0 {
-            (-(s + 1)) as u32 * 2 + 1
-        } else {
-            s as u32 * 2
-        }
-    }
-
-    fn from_number(n: u32) -> Option<Steps> {
-        let half = (n / 2) as i32;
-        if n % 2 == 0 {
-            Some(Steps::new(half))
-        } else {
-            Some(Steps::new(-half - 1))
-        }
-    }
+/// An entry of the kind steps: a drive of so many steps, signed, of 32 bits.
+#[derive(Clone, Copy, PartialEq, Eq, Debug)]
+pub struct Steps {
+    value: i32,
+    // `mag` is s, or −s − 1 when s is negative
+    ghost fits: { mag value < 2 ^ 31 },
 }
 
-pub impl Reckoned for Steps as StepsReckoned {
-    ghost zero = { none };
-
-    ghost join = { both };
-
-    ghost inverse = { back };
-
-    fn zero() -> Steps {
-        Steps::new(0)
+impl Steps {
+    /// The entry of this value.
+    pub fn new(value: i32) -> Self
+        ensures { λ r. ⌜ r .value ≡ value ⌝ }
+    {
+        Steps { value }
     }
 
-    fn join(self, other: Steps) -> Steps {
-        Steps::new(self.value().wrapping_add(other.value()))
-    }
-
-    fn inverse(self) -> Steps {
-        Steps::new(self.value().wrapping_neg())
+    /// The value of the entry.
+    pub fn value(self) -> i32
+        ensures { λ r. ⌜ r ≡ self .value ⌝ }
+    {
+        self.value
     }
 }

@@ -1,6 +1,6 @@
 -- A log cut into lines, one after another. Assumes nothing.
 use Prim.Native.Nat.{ℕ, zero, suc, _+_, _-_, _≤_, _<_}
-use Rattle.kinds.specs.declared.entry.Steps.{Steps}
+use Rattle.kinds.specs.declared.steps.Steps.{Steps}
 use Rattle.logs.specs.Logs.{lines, text, First-bad}
 use Rattle.std.proofs.shelf.Lists.{getD-drop, drop-drop, length-drop, length-map, length-append, take-at, getD-at, append-assoc, map-push}
 use Rattle.std.proofs.shelf.Tests.{eq-eqb, ne-eqb}

@@ -1,6 +1,6 @@
 -- What a log of drives says. Assumes nothing.
 use Prim.Native.Nat.{ℕ, _+_, _<_}
-use Rattle.kinds.specs.declared.entry.Steps.{Steps}
+use Rattle.kinds.specs.declared.steps.Steps.{Steps}
 use Rattle.kinds.specs.declared.refusal.Refusal.the-variants.{NotAForm, NoMemory}
 use Rattle.logs.specs.declared.fault.BadLine.{BadLine}
 use Rattle.std.specs.Of.Vec.{vec-items}

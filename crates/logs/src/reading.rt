@@ -1,6 +1,6 @@
 //! Reading a log.
 ghost use Prim.Native.Nat.{ℕ, _≤_, _<_};
-ghost use Rattle.kinds.specs.declared.entry.Steps.{Steps};
+ghost use Rattle.kinds.specs.declared.steps.Steps.{Steps};
 ghost use Rattle.logs.specs.Logs.{Reads, text};
 ghost use Rattle.std.specs.Options.{Cases};
 ghost use lib.ListN.{length, getD};

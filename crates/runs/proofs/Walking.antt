@@ -2,7 +2,7 @@
 use Prim.Native.Nat.{ℕ, _+_, _<_}
 use Rattle.kinds.proofs.Entries.{same-steps, steps-group, zigzag-distinct}
 use Rattle.kinds.specs.Steps.{reckoned, both, zigzag}
-use Rattle.kinds.specs.declared.entry.Steps.{Steps}
+use Rattle.kinds.specs.declared.steps.Steps.{Steps}
 use Rattle.runs.proofs.Summing.{total-read}
 use Rattle.runs.specs.Places.{entry-at}
 use Rattle.runs.specs.Positions.{position-after, Together}

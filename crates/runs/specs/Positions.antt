@@ -2,7 +2,7 @@
 use Prim.Native.Nat.{ℕ, _≤_, _<_}
 use Rattle.kinds.specs.Steps.{reckoned}
 use Rattle.kinds.specs.Totals.{total}
-use Rattle.kinds.specs.declared.entry.Steps.{Steps}
+use Rattle.kinds.specs.declared.steps.Steps.{Steps}
 use Rattle.runs.specs.declared.parting.Parting.{Parting}
 use Rattle.std.specs.declared.option.Option.{Option}
 use Rattle.std.specs.declared.option.Option.the-variants.{Some, None}

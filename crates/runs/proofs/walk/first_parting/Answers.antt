@@ -1,6 +1,6 @@
 use Prim.Native.Nat.{_<_}
 use Rattle.kinds.specs.Steps.{zigzag}
-use Rattle.kinds.specs.declared.entry.Steps.{Steps}
+use Rattle.kinds.specs.declared.steps.Steps.{Steps}
 use Rattle.runs.proofs.Walking.{step-on, start-together, still-together}
 use Rattle.runs.proofs.walk.first_parting.Needs as need
 use lib.ListN.{length}

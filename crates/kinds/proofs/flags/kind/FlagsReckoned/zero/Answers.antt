@@ -1,0 +1,6 @@
+use Rattle.kinds.proofs.Entries.{same-flags}
+use Rattle.kinds.proofs.flags.kind.FlagsReckoned.zero.Needs as need
+use borrow.Author.Needs.{needs}
+
+pub returns : need.returns
+returns c = same-flags _ _ (search needs)

@@ -1,7 +1,0 @@
-use Rattle.kinds.proofs.Entries.{same-steps}
-use Rattle.kinds.proofs.steps.StepsReckoned.join.Needs as need
-use Rattle.std.proofs.shelf.Signed.{wraps}
-use borrow.Author.Needs.{needs}
-
-pub returns : need.returns
-returns c = same-steps _ _ (search (needs, wraps))
