@@ -1,20 +1,14 @@
 -- The refusals are listed, and no two have one number. Assumes nothing.
-use Rattle.kinds.specs.Refusals.{Numbered, number, every}
+use Rattle.kinds.specs.Refusals.{Numbered, number, every, refusal}
 use Rattle.kinds.specs.declared.refusal.Refusal.{Refusal}
 use Rattle.kinds.specs.declared.refusal.Refusal.the-variants.{NoPlace, NoCells, NothingToStrike, AlreadyParked, WrongSlip, NotAForm, BadHead, OtherKind, UnlawfulPlan, TooManyEntries, BadLevel, StrayOnwardBits, BadDirectory, StrayChunkBits, EmptyTopChunk, NoSuchEntry, NoRoom, NoMemory}
 use Rattle.std.proofs.shelf.Elements.{has-getD}
 use Rattle.std.specs.shelf.Lists.{Has}
-use Prim.Native.Nat.{ℕ, _<_, _-_}
 use lib.Dec.{lit<}
-use lib.ListN.{length, getD}
 use mathlib.Core.Path.{_≡_, refl, sym, ap, _∙_}
 
--- the refusal of a number, counted from 1; want of memory stands last
-of-number : ℕ → Refusal
-of-number n = getD every (n - 1) NoMemory
-
-back : (x : Refusal) → of-number (number x) ≡ x
-unfolding of-number
+-- each refusal is found by its number
+back : (x : Refusal) → refusal (number x) ≡ x
 back NoPlace = refl
 back NoCells = refl
 back NothingToStrike = refl
@@ -58,5 +52,6 @@ pub numbered : Numbered
 numbered = record {
   how-many = refl;
   all-listed = listed;
-  distinct = λ x y e. sym (back x) ∙ ap of-number e ∙ back y;
+  distinct = λ x y e. sym (back x) ∙ ap refusal e ∙ back y;
+  found = back;
 }

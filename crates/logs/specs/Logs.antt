@@ -1,7 +1,7 @@
 -- What a log of drives says. Assumes nothing.
 use Prim.Native.Nat.{ℕ, _+_, _<_}
+use Rattle.kinds.specs.Refusals.{refusal}
 use Rattle.kinds.specs.declared.steps.Steps.{Steps}
-use Rattle.kinds.specs.declared.refusal.Refusal.the-variants.{NotAForm, NoMemory}
 use Rattle.logs.specs.declared.fault.BadLine.{BadLine}
 use Rattle.std.specs.Of.Vec.{vec-items}
 use Rattle.std.specs.Written.{signed}
@@ -41,4 +41,4 @@ pub record First-bad (ls : List (List ℕ)) (k : ℕ) : Type 0 where
 -- what reading a log answers: its drives, each line being one, or the first line that is none
 abbrev pub Reads : List ℕ → Result (Vec Steps Global) BadLine → Type 0
 Reads bs (Ok drives) = map text (vec-items drives) ≡ lines bs
-Reads bs (Err f) = ((f .refusal ≡ NotAForm) × First-bad (lines bs) (f .line)) ⊎ (f .refusal ≡ NoMemory)
+Reads bs (Err f) = ((f .refusal ≡ refusal 6) × First-bad (lines bs) (f .line)) ⊎ (f .refusal ≡ refusal 24)

@@ -2,7 +2,7 @@
 use Prim.Native.Nat.{ℕ, zero, suc, min, _+_, _-_, _^_, _≤_, _<_}
 use Rattle.kinds.specs.declared.refusal.Refusal.{Refusal}
 use Rattle.kinds.specs.declared.refusal.Refusal.the-variants.{NoPlace}
-use Rattle.runs.specs.Places.{entry-at, cut}
+use Rattle.runs.specs.Places.{entry-at, cut, part}
 use Rattle.std.proofs.shelf.Lists.{getD-take, getD-drop, getD-default, map-more, take-all, length-take, length-drop}
 use Rattle.std.proofs.shelf.Maps.{nth-read, nth-getD, nth-past}
 use Rattle.std.specs.Finite.{nth}
@@ -11,6 +11,7 @@ use Rattle.std.specs.declared.result.Result.{Result}
 use Rattle.std.specs.declared.result.Result.the-variants.{Ok, Err}
 use lib.ListN.{length, getD, take, drop}
 use mathlib.Core.List.{List, [], _∷_, _++_, map}
+use mathlib.Core.Logic.{_⊎_, inl, inr}
 use mathlib.Core.Path.{_≡_, refl, sym, ap, _∙_}
 use native.Mathlib.Nat.{zero-add, suc-add, add-suc}
 use native.Mathlib.Omega.{arith}
@@ -45,6 +46,11 @@ module _ {K : Type 0} (xs : List K) where
       known : (p : ℕ) → 0 < p → p ≤ length xs → getD xs (p - 1) e ≡ getD xs (p - 1) (getD xs (p - 1) e)
       known p pos within = getD-default xs (p - 1) e (getD xs (p - 1) e) (omega arith)
 
+-- no entry outside
+pub entry-outside : {K : Type 0} (xs : List K) (p n : ℕ) → n ≡ length xs → ((p ≡ 0) ⊎ (n < p)) → entry-at xs p ≡ Err NoPlace
+entry-outside xs p n whole (inl none) = ap (entry-at xs) none ∙ entry-none xs
+entry-outside xs p n whole (inr past) = entry-past xs p (omega arith)
+
 -- the entry at the place after i entries
 pub entry-next : {K : Type 0} (xs : List K) (i : ℕ) (e : K) → i < length xs → entry-at xs (i + 1) ≡ Ok e → e ≡ getD xs i e
 entry-next xs i e within is =
@@ -71,7 +77,7 @@ nth-take (suc m) (x ∷ xs) zero h = refl
 nth-take (suc m) (x ∷ xs) (suc i) h = nth-take m xs i (omega arith)
 
 -- reading a part of a run
-pub entry-part : {K : Type 0} (xs : List K) (a m p : ℕ) → 0 < p → p ≤ m → entry-at (take m (drop a xs)) p ≡ entry-at xs (a + p)
+pub entry-part : {K : Type 0} (xs : List K) (a m p : ℕ) → 0 < p → p ≤ m → entry-at (part xs a m) p ≡ entry-at xs (a + p)
 unfolding entry-at
 entry-part xs a m zero pos few = absurd (omega arith)
 entry-part xs a m (suc i) pos few =

@@ -1,8 +1,9 @@
 //! A part of another run.
 ghost use Rattle.runs.specs.Few.{part-few};
-ghost use lib.ListN.{take, drop};
+ghost use Rattle.runs.specs.Places.{part};
 ghost use mathlib.Core.Path.{_≡_};
 use crate::meaning::Run;
+use crate::reading::is_outside;
 use kinds::Refusal;
 
 /// The run below without its first `skipped` entries, and of the rest the first `most`, or all if
@@ -26,7 +27,7 @@ impl<R: Run> Excerpt<R> {
 pub impl<R: Run> Run for Excerpt<R> as ExcerptRun {
     type Entry = R::Entry;
 
-    ghost entries = { λ s. take (s .most) (drop (s .skipped) (R·Run .entries (s .below))) };
+    ghost entries = { λ s. part (R·Run .entries (s .below)) (s .skipped) (s .most) };
 
     ghost few = { λ s. part-few (R·Run .entries (s .below)) (s .skipped) (s .most) (R·Run .few (s .below)) };
 
@@ -35,7 +36,7 @@ pub impl<R: Run> Run for Excerpt<R> as ExcerptRun {
     }
 
     fn at(&self, place: u32) -> Result<R::Entry, Refusal> {
-        if place == 0 || place > self.count() {
+        if is_outside(place, self.count()) {
             return Err(Refusal::NoPlace);
         }
         self.below.at(self.skipped + place)

@@ -1,5 +1,5 @@
 //! The totals of a run: making them and reading them.
-ghost use Rattle.kinds.specs.declared.refusal.Refusal.the-variants.{NoMemory};
+ghost use Rattle.kinds.specs.Refusals.{refusal};
 ghost use Rattle.runs.specs.Places.{running};
 ghost use Rattle.std.specs.Of.Vec.{vec-items};
 ghost use Rattle.std.specs.Results.{Cases};
@@ -18,7 +18,7 @@ impl<K: Reckoned> Totals<K> {
     /// The totals of the first 1, 2, 3 .. entries of `run`. Refused with 24, and only for want of
     /// memory.
     pub fn over<R: Run<Entry = K>>(heap: Global, run: &R) -> Result<Self, Refusal>
-        ensures { λ r. ⌜ Cases r (λ t. vec-items (t .joins) ≡ running K·Reckoned (R·Run .entries (now (run .entry)))) (λ f. f ≡ NoMemory) ⌝ }
+        ensures { λ r. ⌜ Cases r (λ t. vec-items (t .joins) ≡ running K·Reckoned (R·Run .entries (now (run .entry)))) (λ f. f ≡ refusal 24) ⌝ }
     {
         let count = run.count();
         let mut joins = Vec::with_capacity(heap, count as usize)?;

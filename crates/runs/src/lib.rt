@@ -6,9 +6,7 @@ mod meaning;
 mod parting;
 
 mod reading;
-mod records;
 mod table;
-mod tallying;
 mod totals;
 mod walk;
 
@@ -18,14 +16,10 @@ pub use layer::TotalsRun;
 pub use lent::LentRun;
 pub use meaning::Run;
 pub use parting::Parting;
+pub use reading::numbers_of;
 pub use walk::first_parting;
 pub use walk::position;
 pub use walk::total;
-pub use records::TallyRecord;
-pub use records::TallyRecordDebug;
-pub use records::TallyRecordEq;
-pub use records::TallyRecordPartialEq;
 pub use table::TableRun;
-pub use tallying::tally;
 pub use totals::Totals;
 

@@ -3,6 +3,7 @@ ghost use Rattle.runs.specs.Few.{cut-few};
 ghost use Rattle.runs.specs.Places.{cut};
 ghost use denote.Ref.{now};
 use crate::meaning::Run;
+use crate::reading::is_outside;
 use kinds::Kind;
 use kinds::Refusal;
 
@@ -23,7 +24,7 @@ pub impl<'a, K: Kind> Run for &'a [K] as TableRun {
 
     fn at(&self, place: u32) -> Result<K, Refusal> {
         let table = *self;
-        if place == 0 || place as usize > table.len() {
+        if is_outside(place, self.count()) {
             return Err(Refusal::NoPlace);
         }
         Ok(table[place as usize - 1])

@@ -10,7 +10,7 @@ mod lines;
 #[cfg(test)]
 mod numbering;
 #[cfg(test)]
-mod tallies;
+mod counting;
 
 pub use notch::Notch;
 pub use selector::NotchKind;
