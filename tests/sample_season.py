@@ -40,7 +40,7 @@ def parting(a, b):
         p, q = wrap(p + x), wrap(q + y)
         if p != q:
             return "The positions part after drive %d: %d and %d, by %d steps" % (i, p, q, p - q)
-    return "The positions never part."
+    return "The positions never part, as far as both logs go."
 
 
 for name, drives in (("auto", auto), ("heating", heating)):

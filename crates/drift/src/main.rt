@@ -104,7 +104,7 @@ fn tally_of(heap: Global, drives: &[Steps]) -> Result<Vec<Tallied>, AnyError> {
 // Prints where two logs part, or that they never do.
 fn show_parting(rt: &LibcRuntime, first: &[Steps], second: &[Steps]) -> Result<(), AnyError> {
     let Some(p) = first_parting(&first, &second) else {
-        rt.println("The positions never part.")?;
+        rt.println("The positions never part, as far as both logs go.")?;
         return Ok(());
     };
     rt.println(parting_line(rt.alloc(), p.after, p.first.value(), p.second.value(), p.gap())?)?;
