@@ -6,20 +6,20 @@ use kinds::RefusalError;
 use kinds::Steps;
 use kinds::StepsKind;
 use logs::read_log;
-use runs::Run;
-use runs::TableRun;
-use tallies::TallyRecord;
-use runs::first_parting;
-use runs::position;
-use tallies::tally;
 use report::bad_line;
 use report::log_line;
 use report::parting_line;
 use report::tally_line;
+use runs::Run;
+use runs::TableRun;
+use runs::first_parting;
+use runs::position;
 use std::alloc::Global;
 use std::env;
 use std::error::AnyError;
 use std::fs;
+use tallies::TallyRecord;
+use tallies::tally;
 
 // The sample season, in the folder that the program is run in: one unit, set to auto changeover and
 // set to heating only.
@@ -89,13 +89,19 @@ fn show_log(rt: &LibcRuntime, name: &str, drives: &[Steps]) -> Result<(), AnyErr
 
 // How often each drive occurs.
 fn tally_of(heap: Global, drives: &[Steps]) -> Result<Vec<Tallied>, AnyError> {
-    let none = TallyRecord { number: 0, times: 0 };
+    let none = TallyRecord {
+        number: 0,
+        times: 0,
+    };
     let mut records = vec![in heap; none; drives.len()]?;
     let used = tally(heap, &drives, records.as_mut_slice())?;
     let mut lines = Vec::new(heap);
     for record in records.iter().take(used as usize) {
         if let Some(drive) = Steps::from_number(record.number) {
-            lines.push(Tallied { drive: drive.value(), times: record.times })?;
+            lines.push(Tallied {
+                drive: drive.value(),
+                times: record.times,
+            })?;
         }
     }
     Ok(lines)
@@ -107,6 +113,14 @@ fn show_parting(rt: &LibcRuntime, first: &[Steps], second: &[Steps]) -> Result<(
         rt.println("The positions never part, as far as both logs go.")?;
         return Ok(());
     };
-    rt.println(parting_line(rt.alloc(), p.after, p.first.value(), p.second.value(), p.gap())?)?;
+    rt.println(
+        parting_line(
+            rt.alloc(),
+            p.after,
+            p.first.value(),
+            p.second.value(),
+            p.gap(),
+        )?,
+    )?;
     Ok(())
 }

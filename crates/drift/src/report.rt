@@ -30,8 +30,17 @@ pub fn bad_line(heap: Global, name: &str, line: u64, number: u8) -> Result<Strin
 }
 
 /// Where the positions part and by how much.
-pub fn parting_line(heap: Global, after: u32, first: i32, second: i32, gap: i64) -> Result<String, AllocError>
+pub fn parting_line(
+    heap: Global,
+    after: u32,
+    first: i32,
+    second: i32,
+    gap: i64,
+) -> Result<String, AllocError>
     ensures { λ r. ⌜ made r (λ s. string-bytes s ≡ codes "The positions part after drive " ++ (decimal after ++ (codes ": " ++ (signed first ++ (codes " and " ++ (signed second ++ (codes ", by " ++ (signed gap ++ codes " steps")))))))) ⌝ }
 {
-    format!(heap, "The positions part after drive {after}: {first} and {second}, by {gap} steps")
+    format!(
+        heap,
+        "The positions part after drive {after}: {first} and {second}, by {gap} steps"
+    )
 }

@@ -23,10 +23,16 @@ pub fn read_log(heap: Global, log: &[u8]) -> Result<Vec<Steps>, BadLine>
         let end = line_end(log, start);
         let line = drives.len() as u64 + 1;
         let Some(drive) = read_drive(&log[start..end]) else {
-            return Err(BadLine { line, refusal: Refusal::NotAForm });
+            return Err(BadLine {
+                line,
+                refusal: Refusal::NotAForm,
+            });
         };
         if drives.push(drive).is_err() {
-            return Err(BadLine { line, refusal: Refusal::NoMemory });
+            return Err(BadLine {
+                line,
+                refusal: Refusal::NoMemory,
+            });
         }
         start = end + 1;
     }

@@ -37,10 +37,10 @@ value-front bs k =
     let front = map digitValue (take k bs) in
     let rest = map digitValue (drop k bs) in
     let whole : value 10 bs ≡ numberAfter 10 (number 10 front) rest =
-        value-is 10 bs
-        ∙ ap (λ l. number 10 (map digitValue l)) (sym (take-append-drop k bs))
-        ∙ ap (number 10) (map-append digitValue (take k bs) (drop k bs))
-        ∙ numberAfter-append 10 0 front rest
+    value-is 10 bs
+    ∙ ap (λ l. number 10 (map digitValue l)) (sym (take-append-drop k bs))
+    ∙ ap (number 10) (map-append digitValue (take k bs) (drop k bs))
+    ∙ numberAfter-append 10 0 front rest
     in
     omega (arith, value-is 10 (take k bs), numberAfter-ge 10 (number 10 front) rest (omega arith))
 

@@ -20,7 +20,11 @@ impl<R: Run> Excerpt<R> {
     pub fn new(below: R, skipped: u32, most: u32) -> Self
         ensures { λ r. ⌜ (r .below ≡ below) × (r .skipped ≡ skipped) × (r .most ≡ most) ⌝ }
     {
-        Excerpt { below, skipped, most }
+        Excerpt {
+            below,
+            skipped,
+            most,
+        }
     }
 }
 
@@ -32,7 +36,10 @@ pub impl<R: Run> Run for Excerpt<R> as ExcerptRun {
     ghost few = { λ s. part-few (R·Run .entries (s .below)) (s .skipped) (s .most) (R·Run .few (s .below)) };
 
     fn count(&self) -> u32 {
-        self.below.count().saturating_sub(self.skipped).min(self.most)
+        self.below
+            .count()
+            .saturating_sub(self.skipped)
+            .min(self.most)
     }
 
     fn at(&self, place: u32) -> Result<R::Entry, Refusal> {

@@ -4,7 +4,6 @@ mod layer;
 mod lent;
 mod meaning;
 mod parting;
-
 mod reading;
 mod table;
 mod totals;
@@ -17,9 +16,8 @@ pub use lent::LentRun;
 pub use meaning::Run;
 pub use parting::Parting;
 pub use reading::numbers_of;
+pub use table::TableRun;
+pub use totals::Totals;
 pub use walk::first_parting;
 pub use walk::position;
 pub use walk::total;
-pub use table::TableRun;
-pub use totals::Totals;
-

@@ -50,7 +50,11 @@ pub fn first_parting<A: Run<Entry = Steps>, B: Run<Entry = Steps>>(a: &A, b: &B)
         first = first.join(entry_of(a, i + 1));
         second = second.join(entry_of(b, i + 1));
         if first.number() != second.number() {
-            return Some(Parting { after: i + 1, first, second });
+            return Some(Parting {
+                after: i + 1,
+                first,
+                second,
+            });
         }
     }
     None

@@ -53,10 +53,10 @@ passing-one p q x yes′ e (suc b) = let before = passing-one p q x yes′ e b i
     elsewhere : passing p b ≡ passing q b + cond (ltb x b) (cond (q x) 0 1) 0 → (b ≡ x → ⊥) → cond (p b) 1 0 + passing p b ≡ cond (q b) 1 0 + passing q b + cond (ltb x (suc b)) (cond (q x) 0 1) 0
     elsewhere ih h =
         let same : ltb x (suc b) ≡ ltb x b =
-            ⊎-elim
-            (λ l. lt-ltb x (suc b) (omega arith) ∙ sym (lt-ltb x b l))
-            (λ l. le-ltb x (suc b) (omega arith) ∙ sym (le-ltb x b l))
-            (cases-lt x b)
+        ⊎-elim
+        (λ l. lt-ltb x (suc b) (omega arith) ∙ sym (lt-ltb x b l))
+        (λ l. le-ltb x (suc b) (omega arith) ∙ sym (le-ltb x b l))
+        (cases-lt x b)
         in
         rw (e b h, same) (omega arith)
 

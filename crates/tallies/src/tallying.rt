@@ -74,6 +74,9 @@ fn note(groups: &mut Vec<TallyRecord>, n: u32) -> Result<(), Refusal>
         groups[count - 1] = TallyRecord { number: n, times };
         return Ok(());
     }
-    groups.push(TallyRecord { number: n, times: 1 })?;
+    groups.push(TallyRecord {
+        number: n,
+        times: 1,
+    })?;
     Ok(())
 }

@@ -15,13 +15,16 @@ use runs::Excerpt;
 use runs::ExcerptRun;
 use runs::Run;
 use runs::TableRun;
+use std::alloc::Global;
+use std::test::*;
 use tallies::TallyRecord;
 use tallies::TallyRecordPartialEq;
 use tallies::tally;
-use std::alloc::Global;
-use std::test::*;
 
-const BLANK: TallyRecord = TallyRecord { number: 7777, times: 7777 };
+const BLANK: TallyRecord = TallyRecord {
+    number: 7777,
+    times: 7777,
+};
 
 // How often a record stands among the first `n`.
 fn standing(records: &[TallyRecord], n: usize, number: u32, times: u32) -> u32 {
@@ -57,7 +60,13 @@ fn tallies<R: Run>(heap: Global, run: &R, expected: &[(u32, u32)]) -> Result<(),
 #[test]
 fn tallies_of_steps_flags_and_faults(rt: LibcRuntime) -> Result<(), Fail> {
     let heap = rt.alloc();
-    let steps: &[Steps] = &[Steps::new(4), Steps::new(-4), Steps::new(4), Steps::new(0), Steps::new(4)];
+    let steps: &[Steps] = &[
+        Steps::new(4),
+        Steps::new(-4),
+        Steps::new(4),
+        Steps::new(0),
+        Steps::new(4),
+    ];
     tallies(heap, &steps, &[(8, 3), (7, 1), (0, 1)])?;
     tallies(heap, &Excerpt::new(steps, 1, 2), &[(8, 1), (7, 1)])?;
     let flags: &[Flags] = &[Flags::new(255), Flags::new(0), Flags::new(255)];
@@ -90,5 +99,8 @@ fn a_million_different_numbers(rt: LibcRuntime) -> Result<(), Fail> {
         check(r.times == 1)?;
     }
     let short = &mut records.as_mut_slice()[0..1048575];
-    check(matches!(tally(heap, &entries.as_slice(), short), Err(Refusal::NoRoom)))
+    check(matches!(
+        tally(heap, &entries.as_slice(), short),
+        Err(Refusal::NoRoom)
+    ))
 }

@@ -46,7 +46,13 @@ fn has<R: Run>(run: &R, numbers: &[u32]) -> Result<(), Fail> {
 }
 
 fn drives() -> [Steps; 5] {
-    [Steps::new(40), Steps::new(-3), Steps::new(7), Steps::new(0), Steps::new(-44)]
+    [
+        Steps::new(40),
+        Steps::new(-3),
+        Steps::new(7),
+        Steps::new(0),
+        Steps::new(-44),
+    ]
 }
 
 #[test]
@@ -80,8 +86,15 @@ fn totals_join_and_wrap(rt: LibcRuntime) -> Result<(), Fail> {
     has(&Totals::over(heap, &table)?, &[80, 74, 88, 88, 0])?;
     has(&Totals::over(heap, &Excerpt::new(table, 1, 2))?, &[5, 8])?;
     has(&Excerpt::new(Totals::over(heap, &table)?, 1, 2), &[74, 88])?;
-    has(&Totals::over(heap, &Totals::over(heap, &table)?)?, &[80, 154, 242, 330, 330])?;
-    let wide: &[Steps] = &[Steps::new(2147483647), Steps::new(2147483647), Steps::new(2)];
+    has(
+        &Totals::over(heap, &Totals::over(heap, &table)?)?,
+        &[80, 154, 242, 330, 330],
+    )?;
+    let wide: &[Steps] = &[
+        Steps::new(2147483647),
+        Steps::new(2147483647),
+        Steps::new(2),
+    ];
     has(&Totals::over(heap, &wide)?, &[4294967294, 3, 0])?;
     let none: &[Steps] = &[];
     has(&Totals::over(heap, &none)?, &[])
@@ -102,7 +115,10 @@ fn positions_and_where_they_part() -> Result<(), Fail> {
     let Some(p) = first_parting(&table, &other) else {
         return Err(Fail::new("they part"));
     };
-    check_eq((p.after, p.first.value(), p.second.value(), p.gap()), (3, 44, 41, 3))?;
+    check_eq(
+        (p.after, p.first.value(), p.second.value(), p.gap()),
+        (3, 44, 41, 3),
+    )?;
     let none: &[Steps] = &[];
     check(first_parting(&none, &table).is_none())
 }
@@ -110,7 +126,12 @@ fn positions_and_where_they_part() -> Result<(), Fail> {
 #[test]
 fn notches_go_through_every_layer(rt: LibcRuntime) -> Result<(), Fail> {
     let heap = rt.alloc();
-    let notches = [Notch::turned(4), Notch::turned(3), Notch::turned(0), Notch::turned(2)];
+    let notches = [
+        Notch::turned(4),
+        Notch::turned(3),
+        Notch::turned(0),
+        Notch::turned(2),
+    ];
     let table: &[Notch] = &notches;
     has(&table, &[4, 3, 0, 2])?;
     has(&Totals::over(heap, &table)?, &[4, 2, 2, 4])?;
@@ -123,7 +144,10 @@ fn a_million_totals(rt: LibcRuntime) -> Result<(), Fail> {
     let ones = vec![in rt.alloc(); Steps::new(1); 1048576]?;
     let totals = Totals::over(rt.alloc(), &ones.as_slice())?;
     for i in 0..totals.count() {
-        check_eq(number_at(&totals, i.saturating_add(1)), (u64::from(i) + 1) * 2)?;
+        check_eq(
+            number_at(&totals, i.saturating_add(1)),
+            (u64::from(i) + 1) * 2,
+        )?;
     }
     check_eq(totals.count(), 1048576)
 }

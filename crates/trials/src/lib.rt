@@ -1,16 +1,16 @@
 //! Many cases for the lower layers, and a kind written by someone else: nothing here is part of the
 //! product.
-mod notch;
-mod selector;
-
+#[cfg(test)]
+mod counting;
 #[cfg(test)]
 mod layers;
 #[cfg(test)]
 mod lines;
+mod notch;
 #[cfg(test)]
 mod numbering;
-#[cfg(test)]
-mod counting;
+mod selector;
+mod worked;
 
 pub use notch::Notch;
 pub use selector::NotchKind;

@@ -15,7 +15,11 @@ impl Notch {
     pub fn new(value: u8) -> Option<Self>
         ensures { λ r. ⌜ Cases r (5 ≤ value) (λ e. e .value ≡ value) ⌝ }
     {
-        if value < 5 { Some(Notch { value }) } else { None }
+        if value < 5 {
+            Some(Notch { value })
+        } else {
+            None
+        }
     }
 
     /// The notch that a number comes to, modulo 5.

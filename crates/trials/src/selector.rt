@@ -6,6 +6,7 @@ use kinds::Reckoned;
 
 pub impl Kind for Notch as NotchKind {
     const WIDTH: u32 = 3;
+
     const CODE: u8 = 200;
 
     ghost width = { 3 };

@@ -6,6 +6,7 @@ use crate::laws::Reckoned;
 
 pub impl Kind for Counts as CountsKind {
     const WIDTH: u32 = 32;
+
     const CODE: u8 = 1;
 
     ghost width = { 32 };

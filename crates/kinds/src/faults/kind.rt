@@ -4,6 +4,7 @@ use crate::laws::Kind;
 
 pub impl Kind for Faults as FaultsKind {
     const WIDTH: u32 = 4;
+
     const CODE: u8 = 4;
 
     ghost width = { 4 };
@@ -25,10 +26,6 @@ pub impl Kind for Faults as FaultsKind {
     }
 
     fn from_number(n: u32) -> Option<Faults> {
-        if n <= 10 {
-            Faults::new(n as u8)
-        } else {
-            None
-        }
+        if n <= 10 { Faults::new(n as u8) } else { None }
     }
 }

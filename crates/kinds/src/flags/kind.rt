@@ -6,6 +6,7 @@ use crate::laws::Reckoned;
 
 pub impl Kind for Flags as FlagsKind {
     const WIDTH: u32 = 8;
+
     const CODE: u8 = 3;
 
     ghost width = { 8 };

@@ -1,11 +1,12 @@
 //! How steps are numbered and how they join.
 ghost use Rattle.kinds.specs.Steps.{zigzag, none, both, back};
-use crate::steps::Steps;
 use crate::laws::Kind;
 use crate::laws::Reckoned;
+use crate::steps::Steps;
 
 pub impl Kind for Steps as StepsKind {
     const WIDTH: u32 = 32;
+
     const CODE: u8 = 2;
 
     ghost width = { 32 };

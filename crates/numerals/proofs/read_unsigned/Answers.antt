@@ -17,10 +17,10 @@ returns-in-Break-n c =
     let i = c .loop-b .b-index in
     let d = digitValue (getD bs i 0) in
     rw (c .from-residual .ensures) (λ m small is.
-      ⊎-elim
-      (λ h. not-large bs m small is i (c .loop-b-test .taken) (rw (sym (c .loop-b .inv .1)) (c .in-Break-n .ensures tt h)))
-      (λ h. all-digits bs m small is i (c .loop-b-test .taken) h)
-      (cases-lt d 10))
+    ⊎-elim
+    (λ h. not-large bs m small is i (c .loop-b-test .taken) (rw (sym (c .loop-b .inv .1)) (c .in-Break-n .ensures tt h)))
+    (λ h. all-digits bs m small is i (c .loop-b-test .taken) h)
+    (cases-lt d 10))
 
 pub loop-b-again : need.loop-b-again
 loop-b-again c =

@@ -21,9 +21,9 @@ pub returns : need.returns
 returns c =
     let gs = vec-items (c .args .groups .now) in
     let other : 0 < length gs → last-of gs .number ≡ c .args .n → ⊥ = λ some same. elim (c .else-count-gt0 .came) [
-      else-count-gt0·by·then-count-gt0·else-index-n w ↦ (
-        let whole : c .len-count .result ≡ length gs = omega (arith, c .len-count .ensures, c .args .groups .now .ok .0) in
-        w .if-index-n .left (ap (λ (r : TallyRecord). r .number) (last-read gs _ (w .index .result .now) whole (w .if-count-gt0 .taken) (w .index .ensures)) ∙ same))
-    | else-count-gt0·by·else-count-gt0 w ↦ omega (arith, w .if-count-gt0 .left, c .len-count .ensures, c .args .groups .now .ok .0)
+      | else-count-gt0·by·then-count-gt0·else-index-n w ↦ (
+          let whole : c .len-count .result ≡ length gs = omega (arith, c .len-count .ensures, c .args .groups .now .ok .0) in
+          w .if-index-n .left (ap (λ (r : TallyRecord). r .number) (last-read gs _ (w .index .result .now) whole (w .if-count-gt0 .taken) (w .index .ensures)) ∙ same))
+      | else-count-gt0·by·else-count-gt0 w ↦ omega (arith, w .if-count-gt0 .left, c .len-count .ensures, c .args .groups .now .ok .0)
     ] in
     inr (record { other = other; is = c .in-Continue-push .ensures tt .items })
