@@ -1,15 +1,13 @@
 //! Compares two logs of one valve, drive by drive, and says where their positions part.
-mod report;
-
 use kinds::Kind;
 use kinds::RefusalError;
 use kinds::Steps;
 use kinds::StepsKind;
+use logs::bad_line;
+use logs::log_line;
+use logs::parting_line;
 use logs::read_log;
-use report::bad_line;
-use report::log_line;
-use report::parting_line;
-use report::tally_line;
+use logs::tally_line;
 use runs::Run;
 use runs::TableRun;
 use runs::first_parting;

@@ -1,4 +1,4 @@
-use Rattle.drift.proofs.report.log_line.Needs as need
+use Rattle.logs.proofs.report.log_line.Needs as need
 use Rattle.std.proofs.shelf.Signed.{toZ-ofZ}
 
 pub returns : need.returns
