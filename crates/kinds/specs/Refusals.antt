@@ -42,7 +42,7 @@ abbrev first-of : ℕ → List Refusal → Refusal
 first-of n [] = NoMemory
 first-of n (x ∷ xs) = cond (eqb (number x) n) x (first-of n xs)
 
--- the refusal that has a number: how promises name one
+-- the refusal that has a number: how promises name one (they name no number that none has)
 abbrev pub refusal : ℕ → Refusal
 refusal n = first-of n every
 

@@ -1,7 +1,7 @@
 -- A log cut into lines, one after another. Assumes nothing.
 use Prim.Native.Nat.{ℕ, zero, suc, _+_, _-_, _≤_, _<_}
 use Rattle.kinds.specs.declared.steps.Steps.{Steps}
-use Rattle.logs.specs.Logs.{lines, text, First-bad}
+use Rattle.logs.specs.Logs.{lines, text, Reached, First-bad, No-memory}
 use Rattle.std.proofs.shelf.Lists.{getD-drop, drop-drop, length-drop, length-map, length-append, take-at, getD-at, append-assoc, map-push}
 use Rattle.std.proofs.shelf.Tests.{eq-eqb, ne-eqb}
 use lib.Dec.{eqb}
@@ -23,7 +23,7 @@ first-line (b ∷ (c ∷ cs)) (suc n) some within plain found =
 
 module _ (log : List ℕ) (start end : ℕ) (some : start < length log) (from : start ≤ end) (upto : end ≤ length log) (plain : (k : ℕ) → start ≤ k → k < end → getD log k 0 ≡ 10 → ⊥) (found : end < length log → getD log end 0 ≡ 10) where
   -- the next line of a log, and what is left of it
-  pub next-line : lines (drop start log) ≡ take (end - start) (drop start log) ∷ lines (drop (end + 1) log)
+  next-line : lines (drop start log) ≡ take (end - start) (drop start log) ∷ lines (drop (end + 1) log)
   next-line =
       let len = length-drop start log in
       first-line (drop start log) (end - start) (omega arith) (omega arith)
@@ -31,20 +31,36 @@ module _ (log : List ℕ) (start end : ℕ) (some : start < length log) (from : 
       (λ h. getD-drop start log (end - start) 0 ∙ ap (λ j. getD log j 0) (omega arith) ∙ found (omega arith))
       ∙ ap (λ l. take (end - start) (drop start log) ∷ lines l) (drop-drop (suc (end - start)) start log ∙ ap (λ j. drop j log) (omega arith))
 
+  -- the same behind the lines that were read
+  pub line-after : (ds : List Steps) → lines log ≡ map text ds ++ lines (drop start log) → lines log ≡ map text ds ++ (take (end - start) (drop start log) ∷ lines (drop (end + 1) log))
+  line-after ds sofar = sofar ∙ ap (λ ls. map text ds ++ ls) next-line
+
 module _ (ls : List (List ℕ)) (ds : List Steps) (l : List ℕ) (rest : List (List ℕ)) (sofar : ls ≡ map text ds ++ (l ∷ rest)) where
-  -- a line that is no drive, behind lines that are
-  pub bad-line : (k : ℕ) → k ≡ length ds + 1 → ((s : Steps) → text s ≡ l → ⊥) → First-bad ls k
-  bad-line k count none =
+  -- the line behind lines that are drives
+  reached : (k : ℕ) → k ≡ length ds + 1 → Reached ls k
+  reached k count =
       let len = length-map ds text in
       record {
         before = ds;
         count = count;
         within = omega (arith, ap length sofar, length-append (map text ds) (l ∷ rest));
         good = ap (take (length ds)) sofar ∙ take-at (map text ds) (l ∷ rest) (length ds) len;
-        bad = λ s e. none s (e ∙ ap (λ xs. getD xs (length ds) []) sofar ∙ getD-at (map text ds) l rest [] (length ds) len);
       }
 
-  -- a line that is one
+  here : l ≡ getD ls (length ds) []
+  here = sym (ap (λ xs. getD xs (length ds) []) sofar ∙ getD-at (map text ds) l rest [] (length ds) (length-map ds text))
+
+  -- it is no drive
+  pub bad-line : (k : ℕ) → k ≡ length ds + 1 → ((s : Steps) → text s ≡ l → ⊥) → First-bad ls k
+  unfolding reached
+  bad-line k count none = record { at = reached k count; bad = λ s e. none s (e ∙ sym here) }
+
+  -- it is one, and found no memory
+  pub lost-line : (k : ℕ) → k ≡ length ds + 1 → (s : Steps) → text s ≡ l → No-memory ls k
+  unfolding reached
+  lost-line k count s is = record { at = reached k count; drive = s; good = is ∙ here }
+
+  -- it is one
   pub good-line : (s : Steps) (after : List Steps) → text s ≡ l → after ≡ ds ++ (s ∷ []) → ls ≡ map text after ++ rest
   good-line s after is pushed =
       sofar

@@ -30,15 +30,30 @@ abbrev pub lines : List ℕ → List (List ℕ)
 lines [] = []
 lines (b ∷ bs) = cond (eqb b 10) ([] ∷ lines bs) (grown b (lines bs))
 
--- line k, counted from 1, is the first that is no drive
-pub record First-bad (ls : List (List ℕ)) (k : ℕ) : Type 0 where
+-- reading came to line k, counted from 1: the lines before it are drives
+pub record Reached (ls : List (List ℕ)) (k : ℕ) : Type 0 where
   pub before : List Steps
   pub count : k ≡ length before + 1
   pub within : length before < length ls
   pub good : take (length before) ls ≡ map text before
-  pub bad : (s : Steps) → text s ≡ getD ls (length before) [] → ⊥
+
+-- what stands in the line that was reached
+abbrev pub line-at : {ls : List (List ℕ)} {k : ℕ} → Reached ls k → List ℕ
+line-at {ls} r = getD ls (length (r .before)) []
+
+-- line k is the first that is no drive
+pub record First-bad (ls : List (List ℕ)) (k : ℕ) : Type 0 where
+  pub at : Reached ls k
+  pub bad : (s : Steps) → text s ≡ line-at at → ⊥
+
+-- line k is a drive, but there was no memory for it
+pub record No-memory (ls : List (List ℕ)) (k : ℕ) : Type 0 where
+  pub at : Reached ls k
+  pub drive : Steps
+  pub good : text drive ≡ line-at at
 
 -- what reading a log answers: its drives, each line being one, or the first line that is none
 abbrev pub Reads : List ℕ → Result (Vec Steps Global) BadLine → Type 0
 Reads bs (Ok drives) = map text (vec-items drives) ≡ lines bs
-Reads bs (Err f) = ((f .refusal ≡ refusal 6) × First-bad (lines bs) (f .line)) ⊎ (f .refusal ≡ refusal 24)
+Reads bs (Err f) =
+    ((f .refusal ≡ refusal 6) × First-bad (lines bs) (f .line)) ⊎ ((f .refusal ≡ refusal 24) × No-memory (lines bs) (f .line))

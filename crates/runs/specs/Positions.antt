@@ -3,9 +3,12 @@ use Prim.Native.Nat.{ℕ, _≤_, _<_}
 use Rattle.kinds.specs.Steps.{reckoned}
 use Rattle.kinds.specs.Totals.{total}
 use Rattle.kinds.specs.declared.steps.Steps.{Steps}
+use Rattle.kinds.specs.declared.refusal.Refusal.{Refusal}
+use Rattle.runs.specs.Places.{total-at}
 use Rattle.runs.specs.declared.parting.Parting.{Parting}
 use Rattle.std.specs.declared.option.Option.{Option}
 use Rattle.std.specs.declared.option.Option.the-variants.{Some, None}
+use Rattle.std.specs.declared.result.Result.{Result}
 use lib.ListN.{length, take}
 use mathlib.Core.List.{List}
 use mathlib.Core.Path.{_≡_}
@@ -13,6 +16,10 @@ use mathlib.Core.Path.{_≡_}
 -- the position after i entries: the total of the first i
 abbrev pub position-after : List Steps → ℕ → Steps
 position-after xs i = total reckoned (take i xs)
+
+-- what is answered of it: refused with 1 where there are not so many entries
+abbrev pub position-at : List Steps → ℕ → Result Steps Refusal
+position-at xs i = total-at reckoned xs i
 
 -- the positions are equal after every number of entries below n
 abbrev pub Together : List Steps → List Steps → ℕ → Type 0

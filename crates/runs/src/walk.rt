@@ -1,7 +1,6 @@
 //! Totals and positions of runs.
-ghost use Rattle.kinds.specs.Steps.{reckoned};
 ghost use Rattle.runs.specs.Places.{total-at};
-ghost use Rattle.runs.specs.Positions.{Parts};
+ghost use Rattle.runs.specs.Positions.{Parts, position-at};
 ghost use lib.IntN.{_-ℤ_};
 ghost use mathlib.Core.Path.{_≡_};
 use crate::meaning::Run;
@@ -34,7 +33,7 @@ where
 /// The position of a valve after the first `i` entries of a run of steps. Refused with 1 exactly
 /// when `i` is above the count.
 pub fn position<R: Run<Entry = Steps>>(run: &R, i: u32) -> Result<Steps, Refusal>
-    ensures { λ r. ⌜ r ≡ total-at reckoned (R·Run .entries (now (run .entry))) i ⌝ }
+    ensures { λ r. ⌜ r ≡ position-at (R·Run .entries (now (run .entry))) i ⌝ }
 {
     total(run, i)
 }

@@ -18,8 +18,8 @@ use runs::numbers_of;
 use std::alloc::Global;
 
 /// Writes one record for each different number of the run, with how often it occurs, into the
-/// front of `records`, and answers how many. Refused with 17 exactly when there are too few
-/// records, and with 24 for want of memory; then no record is written. In which order the records
+/// front of `records`, and answers how many. Refused with 17 when there are too few records, and
+/// only then, or with 24 for want of memory; no record is written then. In which order the records
 /// stand is not promised.
 pub fn tally<R: Run>(heap: Global, run: &R, records: &mut [TallyRecord]) -> Result<u32, Refusal>
     ensures { λ r. ⌜ Answered (map (Entry·Kind .number) (R·Run .entries (now (run .entry)))) (now (records .entry)) (now (records .exit)) r ⌝ }

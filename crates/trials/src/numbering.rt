@@ -62,10 +62,11 @@ fn edges_of_every_kind() -> Result<(), Fail> {
 
 #[test]
 fn kinds_are_known_by_number() -> Result<(), Fail> {
-    check_eq((Counts::bits(), Counts::kind_number()), (32, 1))?;
-    check_eq((Steps::bits(), Steps::kind_number()), (32, 2))?;
-    check_eq((Flags::bits(), Flags::kind_number()), (8, 3))?;
-    check_eq((Faults::bits(), Faults::kind_number()), (4, 4))?;
+    check_eq((Counts::WIDTH, Counts::CODE), (32, 1))?;
+    check_eq((Steps::WIDTH, Steps::CODE), (32, 2))?;
+    check_eq((Flags::WIDTH, Flags::CODE), (8, 3))?;
+    check_eq((Faults::WIDTH, Faults::CODE), (4, 4))?;
+    check_eq((Notch::WIDTH, Notch::CODE), (3, 200))?;
     check_eq((Notch::bits(), Notch::kind_number()), (3, 200))
 }
 

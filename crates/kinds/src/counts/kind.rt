@@ -1,4 +1,5 @@
 //! How counts are numbered and how they join.
+ghost use Rattle.kinds.specs.Kinds.{counts, code-of, width-of};
 ghost use Rattle.kinds.specs.Counts.{none, both, back};
 use crate::counts::Counts;
 use crate::laws::Kind;
@@ -9,9 +10,9 @@ pub impl Kind for Counts as CountsKind {
 
     const CODE: u8 = 1;
 
-    ghost width = { 32 };
+    ghost width = { width-of counts };
 
-    ghost code = { 1 };
+    ghost code = { code-of counts };
 
     ghost number = { λ e. e .value };
 

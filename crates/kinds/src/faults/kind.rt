@@ -1,4 +1,5 @@
 //! How faults are numbered.
+ghost use Rattle.kinds.specs.Kinds.{faults, code-of, width-of};
 use crate::faults::Faults;
 use crate::laws::Kind;
 
@@ -7,9 +8,9 @@ pub impl Kind for Faults as FaultsKind {
 
     const CODE: u8 = 4;
 
-    ghost width = { 4 };
+    ghost width = { width-of faults };
 
-    ghost code = { 4 };
+    ghost code = { code-of faults };
 
     ghost number = { λ e. e .value };
 

@@ -1,4 +1,5 @@
 //! How flags are numbered and how they join.
+ghost use Rattle.kinds.specs.Kinds.{flags, code-of, width-of};
 ghost use Rattle.kinds.specs.Flags.{none, both, back};
 use crate::flags::Flags;
 use crate::laws::Kind;
@@ -9,9 +10,9 @@ pub impl Kind for Flags as FlagsKind {
 
     const CODE: u8 = 3;
 
-    ghost width = { 8 };
+    ghost width = { width-of flags };
 
-    ghost code = { 3 };
+    ghost code = { code-of flags };
 
     ghost number = { λ e. e .value };
 

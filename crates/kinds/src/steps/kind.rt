@@ -1,4 +1,5 @@
 //! How steps are numbered and how they join.
+ghost use Rattle.kinds.specs.Kinds.{steps, code-of, width-of};
 ghost use Rattle.kinds.specs.Steps.{zigzag, none, both, back};
 use crate::laws::Kind;
 use crate::laws::Reckoned;
@@ -9,9 +10,9 @@ pub impl Kind for Steps as StepsKind {
 
     const CODE: u8 = 2;
 
-    ghost width = { 32 };
+    ghost width = { width-of steps };
 
-    ghost code = { 2 };
+    ghost code = { code-of steps };
 
     ghost number = { λ e. zigzag (e .value) };
 
