@@ -1,11 +1,7 @@
 //! Many cases for the lower layers, and a kind written by someone else: nothing here is part of the
 //! product.
 #[cfg(test)]
-mod counting;
-#[cfg(test)]
 mod layers;
-#[cfg(test)]
-mod lines;
 mod notch;
 #[cfg(test)]
 mod numbering;

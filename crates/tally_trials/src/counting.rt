@@ -1,6 +1,4 @@
 //! Tallies of several kinds.
-use crate::notch::Notch;
-use crate::selector::NotchKind;
 use kinds::Counts;
 use kinds::CountsKind;
 use kinds::Faults;
@@ -20,6 +18,8 @@ use std::test::*;
 use tallies::TallyRecord;
 use tallies::TallyRecordPartialEq;
 use tallies::tally;
+use trials::Notch;
+use trials::NotchKind;
 
 const BLANK: TallyRecord = TallyRecord {
     number: 7777,

@@ -1,0 +1,3 @@
+//! Many cases for the tally: nothing here is part of the product.
+#[cfg(test)]
+mod counting;
