@@ -15,7 +15,6 @@ import re
 
 # Lemmas that join the name of a function and what it is applied to.
 JOINED = {
-    "get_or-cut",
     "length-decoded",
     "take-decoded",
     "nth-take",
@@ -31,7 +30,7 @@ RENAMED = {
     "No-memory": "WantsMemory",
     "bad-line": "bad_line_lem",
     "codes-differ": "codes_differ_lem",
-    "getD-cut": "get_or-cut",
+    "getD-cut": "get_or_cut",
 }
 
 DECLARED = re.compile(

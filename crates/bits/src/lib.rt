@@ -1,4 +1,6 @@
 //! Numbers packed into 32-bit words.
+#![tactic(auto)]
+
 mod chunks;
 mod rank;
 #[cfg(test)]

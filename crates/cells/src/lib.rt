@@ -1,4 +1,6 @@
 //! A binary Fenwick tree over the entries of any reckoned kind.
+#![tactic(auto)]
+
 mod altering;
 mod making;
 mod reading;

@@ -1,5 +1,7 @@
 //! Kinds of entry: what the entries of a book are, how each is numbered and how entries join; and
 //! the numbered refusals of the whole product.
+#![tactic(auto)]
+
 mod codes;
 mod counts;
 mod faults;

@@ -1,4 +1,6 @@
 //! Ledgers: sheets with their slips, any list of calls on them, and the law that they follow their history.
+#![tactic(auto)]
+
 mod call;
 mod calling;
 mod comparing;

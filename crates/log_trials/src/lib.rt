@@ -1,5 +1,5 @@
-//! Many cases for numbers in text, for logs and for seasons: nothing here is part of the product.
+//! Many cases for numbers in text and for logs: nothing here is part of the product.
+#![tactic(auto)]
+
 #[cfg(test)]
 mod lines;
-#[cfg(test)]
-mod old_fault;

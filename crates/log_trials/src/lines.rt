@@ -1,6 +1,6 @@
 //! Logs, good and bad.
 use kinds::Refusal;
-use logs::{LogLine, read_log};
+use logs::read_log;
 use numerals::{read_signed, read_unsigned};
 use std::alloc::Global;
 
@@ -47,22 +47,13 @@ fn numbers_are_read_as_written(rt: HostRuntime) {
     }
 }
 
-// What a line weighs: a drive its steps, a parking a thousand, a restoring a million.
-fn weight(line: LogLine) -> i64 {
-    match line {
-        LogLine::Drive(steps) => i64::from(steps.value()),
-        LogLine::Park => 1000,
-        LogLine::Restore => 1_000_000,
-    }
-}
-
-// The lines of a log added up, or the number of its first bad line below zero.
+// The drives of a log added up, or the number of its first bad line below zero.
 fn read(heap: Global, log: &[u8]) -> i64 {
     match read_log(heap, log) {
-        Ok(lines) => {
+        Ok(drives) => {
             let mut sum = 0i64;
-            for line in lines.iter() {
-                sum = sum.wrapping_add(weight(*line));
+            for d in drives.iter() {
+                sum = sum.wrapping_add(i64::from(d.value()));
             }
             sum
         }
@@ -85,15 +76,4 @@ fn logs_end_with_or_without_a_newline(rt: HostRuntime) {
     assert_eq!(rt; read(heap, b"5\r\n"), -1);
     assert_eq!(rt; read(heap, b"1\n2\n\xff\n4\n"), -3);
     assert_eq!(rt; read(heap, b"1\n2\n3\0\n"), -3);
-}
-
-#[test]
-fn words_stand_alone(rt: HostRuntime) {
-    let heap = rt.alloc();
-    assert_eq!(rt; read(heap, b"5\npark\n-3\nrestore"), 1_001_002);
-    assert_eq!(rt; read(heap, b"park\npark\n"), 2000);
-    assert_eq!(rt; read(heap, b"1\npark 1\n"), -2);
-    assert_eq!(rt; read(heap, b"Park\n"), -1);
-    assert_eq!(rt; read(heap, b"par\n"), -1);
-    assert_eq!(rt; read(heap, b"1\n2\nrestored\n"), -3);
 }

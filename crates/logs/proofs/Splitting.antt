@@ -1,6 +1,6 @@
 -- A log cut into lines, one after another. Assumes nothing.
 use Rattle.std.proofs.Common.{◌≡◌, ℕ, zero, suc, ◌+◌, ◌-◌, ◌<◌, ◌≤◌, true, false, cond, eqb, List, [], ◌∷◌, ◌++◌, map, length, get_or, take, drop, sym, refl, ap, ◌∙◌, subst, arith}
-use Rattle.logs.specs.declared.line.LogLine.{LogLine}
+use Rattle.kinds.specs.declared.steps.Steps.{Steps}
 use Rattle.logs.specs.Logs.{lines, text, Reached, FirstBad, WantsMemory}
 use Rattle.std.proofs.lemmas.List.{get_or-drop, drop-drop, length-drop, length-map, length-append, take_at, get_or_at, append_assoc, map_push}
 use Rattle.std.proofs.lemmas.Bool.{eq-eqb, ne_eqb}
@@ -26,11 +26,11 @@ module _ (log : List ℕ) (start end : ℕ) (some : start < length log) (from : 
       ∙ ap (λ l. take (end - start) (drop start log) ∷ lines l) (drop-drop (suc (end - start)) start log ∙ ap (λ j. drop j log) (omega arith))
 
   -- the same behind the lines that were read
-  pub line_after : (ds : List LogLine) → lines log ≡ map text ds ++ lines (drop start log) → lines log ≡ map text ds ++ (take (end - start) (drop start log) ∷ lines (drop (end + 1) log))
+  pub line_after : (ds : List Steps) → lines log ≡ map text ds ++ lines (drop start log) → lines log ≡ map text ds ++ (take (end - start) (drop start log) ∷ lines (drop (end + 1) log))
   line_after ds sofar = sofar ∙ ap (λ ls. map text ds ++ ls) next_line
 
-module _ (ls : List (List ℕ)) (ds : List LogLine) (l : List ℕ) (rest : List (List ℕ)) (sofar : ls ≡ map text ds ++ (l ∷ rest)) where
-  -- the line behind lines that say something
+module _ (ls : List (List ℕ)) (ds : List Steps) (l : List ℕ) (rest : List (List ℕ)) (sofar : ls ≡ map text ds ++ (l ∷ rest)) where
+  -- the line behind lines that are drives
   reached : (k : ℕ) → k ≡ length ds + 1 → Reached ls k
   reached k count =
       let len = length-map ds text in
@@ -44,18 +44,18 @@ module _ (ls : List (List ℕ)) (ds : List LogLine) (l : List ℕ) (rest : List 
   here : l ≡ get_or ls (length ds) []
   here = sym (ap (λ xs. get_or xs (length ds) []) sofar ∙ get_or_at (map text ds) l rest [] (length ds) (length-map ds text))
 
-  -- it says nothing
-  pub bad_line_lem : (k : ℕ) → k ≡ length ds + 1 → ((s : LogLine) → text s ≡ l → ⊥) → FirstBad ls k
+  -- it is no drive
+  pub bad_line_lem : (k : ℕ) → k ≡ length ds + 1 → ((s : Steps) → text s ≡ l → ⊥) → FirstBad ls k
   unfolding reached
   bad_line_lem k count none = record { at = reached k count; bad = λ s e. none s (e ∙ sym here) }
 
-  -- it says something, and found no memory
-  pub lost_line : (k : ℕ) → k ≡ length ds + 1 → (s : LogLine) → text s ≡ l → WantsMemory ls k
+  -- it is one, and found no memory
+  pub lost_line : (k : ℕ) → k ≡ length ds + 1 → (s : Steps) → text s ≡ l → WantsMemory ls k
   unfolding reached
-  lost_line k count s is = record { at = reached k count; says = s; good = is ∙ here }
+  lost_line k count s is = record { at = reached k count; drive = s; good = is ∙ here }
 
-  -- it says something
-  pub good_line : (s : LogLine) (after : List LogLine) → text s ≡ l → after ≡ ds ++ (s ∷ []) → ls ≡ map text after ++ rest
+  -- it is one
+  pub good_line : (s : Steps) (after : List Steps) → text s ≡ l → after ≡ ds ++ (s ∷ []) → ls ≡ map text after ++ rest
   good_line s after is pushed =
       sofar
       ∙ ap (λ x. map text ds ++ (x ∷ rest)) (sym is)

@@ -2,42 +2,38 @@
 ghost use Rattle.std.specs.Prelude.{◌≡◌, ℕ, ◌<◌, ◌≤◌, length, MatchOption, ◌≢◌, slice_index};
 ghost use Rattle.kinds.specs.declared.steps.Steps.{Steps};
 ghost use Rattle.logs.specs.Logs.{Reads, text};
-ghost use Rattle.logs.specs.declared.line.LogLine.{LogLine};
-ghost use Rattle.std.specs.Fmt.{signed_decimal};
 
 use crate::fault::BadLine;
-use crate::line::LogLine;
 use kinds::{Refusal, Steps};
 use numerals::read_signed;
 use std::alloc::Global;
 
-/// What the lines of a log say. A line is a drive, a signed number of 32 bits with no plus, no
-/// leading zero and no minus zero, or one of the words `park` and `restore`. Lines end in a newline,
-/// the last also at the end of the log. The first line that says nothing is refused with 6, and one
-/// for which there is no memory with 24.
-pub fn read_log(heap: Global, log: &[u8]) -> Result<Vec<LogLine>, BadLine>
+/// The drives of a log, one a line: a signed number of 32 bits with no plus, no leading zero and no
+/// minus zero. Lines end in a newline, the last also at the end of the log. The first line that is
+/// no drive is refused with 6, and one for which there is no memory with 24.
+pub fn read_log(heap: Global, log: &[u8]) -> Result<Vec<Steps>, BadLine>
     ensures { Reads log.now result }
 {
-    let mut said = Vec::new(heap);
+    let mut drives = Vec::new(heap);
     let mut start = 0;
     while start < log.len() {
         let end = line_end(log, start);
-        let number = said.len() as u64 + 1;
-        let Some(line) = read_line(&log[start..end]) else {
+        let line = drives.len() as u64 + 1;
+        let Some(drive) = read_drive(&log[start..end]) else {
             return Err(BadLine {
-                line: number,
+                line,
                 refusal: Refusal::NotAForm,
             });
         };
-        if said.push(line).is_err() {
+        if drives.push(drive).is_err() {
             return Err(BadLine {
-                line: number,
+                line,
                 refusal: Refusal::NoMemory,
             });
         }
         start = end + 1;
     }
-    Ok(said)
+    Ok(drives)
 }
 
 // The place of the first newline from `start` on, or the end.
@@ -55,21 +51,10 @@ fn line_end(log: &[u8], start: usize) -> usize
     log.len()
 }
 
-// What a line says.
-fn read_line(line: &[u8]) -> Option<LogLine>
-    ensures { MatchOption result ((l : LogLine) → text l ≢ line.now) (λ l. text l ≡ line.now) }
-{
-    match line {
-        b"park" => Some(LogLine::Park),
-        b"restore" => Some(LogLine::Restore),
-        _ => read_drive(line),
-    }
-}
-
 // The drive that a line says.
-fn read_drive(line: &[u8]) -> Option<LogLine>
-    ensures { MatchOption result ((s : Steps) → signed_decimal s.value ≢ line.now) (λ l. text l ≡ line.now) }
+fn read_drive(line: &[u8]) -> Option<Steps>
+    ensures { MatchOption result ((s : Steps) → text s ≢ line.now) (λ s. text s ≡ line.now) }
 {
     let value = read_signed(line)?;
-    Some(LogLine::Drive(Steps::new(value)))
+    Some(Steps::new(value))
 }

@@ -1,4 +1,6 @@
 //! Whole numbers as people write them: no plus, no leading zero, no minus zero.
+#![tactic(auto)]
+
 ghost use Rattle.std.specs.Prelude.{◌≡◌, ℕ, suc, ◌+◌, ◌*◌, ◌^◌, ◌<◌, ◌≤◌, ◌∷◌, length, ℤ, decimal, MatchBool, MatchOption, ◌≢◌, slice_index};
 ghost use Rattle.std.specs.Char.{digit_value};
 ghost use Rattle.std.specs.Fmt.{signed_decimal};

@@ -1,4 +1,6 @@
 //! Runs of entries: any list of entries of one kind that can be counted and read at a place.
+#![tactic(auto)]
+
 mod excerpt;
 mod layer;
 mod lent;

@@ -4,8 +4,8 @@ use Rattle.kinds.specs.Steps.{none}
 use Rattle.kinds.specs.declared.steps.Steps.{Steps}
 use Rattle.ledgers.specs.declared.call.Call.{Call}
 use Rattle.ledgers.specs.declared.call.Call.TheVariants.{Enter, Park, Restore}
-use Rattle.logs.specs.declared.line.LogLine.{LogLine}
-use Rattle.logs.specs.declared.line.LogLine.TheVariants as line
+use Rattle.season_logs.specs.declared.line.LogLine.{LogLine}
+use Rattle.season_logs.specs.declared.line.LogLine.TheVariants as line
 
 -- the call that a line asks for: a drive is entered
 abbrev pub call_of : LogLine → Call Steps

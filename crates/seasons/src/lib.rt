@@ -1,4 +1,6 @@
 //! Seasons: logs replayed as books of steps.
+#![tactic(auto)]
+
 mod replaying;
 
 pub use replaying::{calls_of, replay_log, steps_apart};

@@ -7,7 +7,7 @@ ghost use Rattle.seasons.specs.Seasons.{call_of, table_for};
 
 use kinds::{Reckoned, Refusal, Steps};
 use ledgers::{Call, Replayed, replay};
-use logs::LogLine;
+use season_logs::LogLine;
 use std::alloc::Global;
 
 // The call that a line asks for.

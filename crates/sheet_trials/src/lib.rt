@@ -1,4 +1,6 @@
 //! Many cases for sheets and ledgers: nothing here is part of the product.
+#![tactic(auto)]
+
 #[cfg(test)]
 mod cases;
 #[cfg(test)]

@@ -1,4 +1,6 @@
 //! Sheets: the books of valves while the season runs, and the histories that they keep.
+#![tactic(auto)]
+
 mod altering;
 mod answer;
 mod closed;

@@ -1,4 +1,6 @@
 //! Slips brought to sheets, and sheets as large as they come: nothing here is part of the product.
+#![tactic(auto)]
+
 #[cfg(test)]
 mod large;
 #[cfg(test)]

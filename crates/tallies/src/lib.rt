@@ -1,4 +1,6 @@
 //! The tally of a run: how often each number occurs in it.
+#![tactic(auto)]
+
 mod records;
 mod tallying;
 

@@ -1,3 +1,5 @@
 //! Many cases for the tally: nothing here is part of the product.
+#![tactic(auto)]
+
 #[cfg(test)]
 mod counting;

@@ -4,8 +4,8 @@ use Rattle.logs.specs.Logs.{lines, text}
 
 abbrev pub invariant-loop-start : goal.invariant-loop-start
 invariant-loop-start l =
-    (lines l.log ≡ map text (vec_items l.said) ++ lines (drop l.start l.log))
-    × (vec_len l.said ≤ l.start)
+    (lines l.log ≡ map text (vec_items l.drives) ++ lines (drop l.start l.log))
+    × (vec_len l.drives ≤ l.start)
 
 abbrev pub decreases-loop-start : goal.decreases-loop-start
 decreases-loop-start l = length l.log - l.start

@@ -1,4 +1,4 @@
-use Rattle.logs.proofs.report.agreement_line.Goals as goal
+use Rattle.season_logs.proofs.report.agreement_line.Goals as goal
 
 pub returns-then-agree : goal.returns-then-agree
 returns-then-agree c = simp c.if-agree.true c.format.ensures.ok

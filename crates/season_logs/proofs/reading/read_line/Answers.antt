@@ -1,4 +1,4 @@
-use Rattle.logs.proofs.reading.read_line.Goals as goal
+use Rattle.season_logs.proofs.reading.read_line.Goals as goal
 use Rattle.std.proofs.lemmas.Slice.Eq.{text_from_reads}
 use Rattle.std.proofs.Common.{codes, sym, rules}
 

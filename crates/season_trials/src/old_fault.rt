@@ -1,7 +1,7 @@
 //! The old fault found: a restore that worked from a rounded amount.
 use kinds::Steps;
 use ledgers::agrees;
-use logs::read_log;
+use season_logs::read_log;
 use seasons::{replay_log, steps_apart};
 use sheets::ClosedSheet;
 use std::alloc::Global;

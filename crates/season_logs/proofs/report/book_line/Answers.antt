@@ -1,4 +1,4 @@
-use Rattle.logs.proofs.report.book_line.Goals as goal
+use Rattle.season_logs.proofs.report.book_line.Goals as goal
 use Rattle.std.proofs.lemmas.Int.{to_z-of_z}
 
 pub returns : goal.returns

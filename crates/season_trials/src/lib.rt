@@ -1,0 +1,7 @@
+//! Many cases for logs of seasons: nothing here is part of the product.
+#![tactic(auto)]
+
+#[cfg(test)]
+mod lines;
+#[cfg(test)]
+mod old_fault;
