@@ -13,9 +13,9 @@ impl<K: Reckoned> Cells<K> {
     /// Adds an entry at the end and answers the new count. Refused with 2 exactly when every cell
     /// has its entry, and then nothing is altered. Reads as many cells as two divides the new count.
     pub fn push(&mut self, entry: K) -> Result<u32, Refusal>
-        ensures adds { self.old.count < own (vec_len self.old.table) → (result ≡ Ok (self.old.count + 1)) × (self.new.count ≡ self.old.count + 1) × (written K.Reckoned self.new ≡ written K.Reckoned self.old ++ (entry ∷ [])) }
+        ensures adds { self.old.count < own (vec_len self.old.table) → (result ≡ Ok (self.old.count + 1)) × (self.new.count ≡ self.old.count + 1) × (written K.Reckoned.own self.new ≡ written K.Reckoned.own self.old ++ (entry ∷ [])) }
         ensures refuses { own (vec_len self.old.table) ≤ self.old.count → (result ≡ Err (refusal 2)) × (self.new ≡ self.old) }
-        ensures table { SameTable K.Reckoned self.old self.new }
+        ensures table { SameTable K.Reckoned.own self.old self.new }
     {
         if self.count >= self.capacity() {
             return Err(Refusal::NoCells);
@@ -31,9 +31,9 @@ impl<K: Reckoned> Cells<K> {
     /// there is none, and then nothing is altered.
     pub fn pop(&mut self) -> Result<K, Refusal>
         ensures counts { self.new.count ≡ self.old.count - 1 }
-        ensures removes { 0 < self.old.count → (result ≡ entry_at (written K.Reckoned self.old) self.old.count) × (written K.Reckoned self.new ≡ take (self.old.count - 1) (written K.Reckoned self.old)) }
+        ensures removes { 0 < self.old.count → (result ≡ entry_at (written K.Reckoned.own self.old) self.old.count) × (written K.Reckoned.own self.new ≡ take (self.old.count - 1) (written K.Reckoned.own self.old)) }
         ensures refuses { self.old.count ≡ 0 → (result ≡ Err (refusal 3)) × (self.new ≡ self.old) }
-        ensures table { SameTable K.Reckoned self.old self.new }
+        ensures table { SameTable K.Reckoned.own self.old self.new }
     {
         if self.count == 0 {
             return Err(Refusal::NothingToStrike);
@@ -48,9 +48,9 @@ impl<K: Reckoned> Cells<K> {
     /// when the place is 0 or above the count, and then nothing is altered.
     pub fn join_at(&mut self, place: u32, amount: K) -> Result<K, Refusal>
         ensures counts { self.new.count ≡ self.old.count }
-        ensures joins { (e : K) → entry_at (written K.Reckoned self.old) place ≡ Ok e → (result ≡ Ok (K.Reckoned.join e amount)) × (written K.Reckoned self.new ≡ slice_set (written K.Reckoned self.old) (place - 1) (K.Reckoned.join e amount)) }
-        ensures refuses { (f : Refused) → entry_at (written K.Reckoned self.old) place ≡ Err f → (result ≡ Err f) × (self.new ≡ self.old) }
-        ensures table { SameTable K.Reckoned self.old self.new }
+        ensures joins { (e : K) → entry_at (written K.Reckoned.own self.old) place ≡ Ok e → (result ≡ Ok (K.join e amount)) × (written K.Reckoned.own self.new ≡ slice_set (written K.Reckoned.own self.old) (place - 1) (K.join e amount)) }
+        ensures refuses { (f : Refused) → entry_at (written K.Reckoned.own self.old) place ≡ Err f → (result ≡ Err f) × (self.new ≡ self.old) }
+        ensures table { SameTable K.Reckoned.own self.old self.new }
     {
         let entry = self.at(place)?;
         self.raise_at(place, amount);
@@ -61,9 +61,9 @@ impl<K: Reckoned> Cells<K> {
     /// the place is 0 or above the count, and then nothing is altered.
     pub fn put(&mut self, place: u32, entry: K) -> Result<K, Refusal>
         ensures counts { self.new.count ≡ self.old.count }
-        ensures puts { (old : K) → entry_at (written K.Reckoned self.old) place ≡ Ok old → (result ≡ Ok old) × (written K.Reckoned self.new ≡ slice_set (written K.Reckoned self.old) (place - 1) entry) }
-        ensures refuses { (f : Refused) → entry_at (written K.Reckoned self.old) place ≡ Err f → (result ≡ Err f) × (self.new ≡ self.old) }
-        ensures table { SameTable K.Reckoned self.old self.new }
+        ensures puts { (old : K) → entry_at (written K.Reckoned.own self.old) place ≡ Ok old → (result ≡ Ok old) × (written K.Reckoned.own self.new ≡ slice_set (written K.Reckoned.own self.old) (place - 1) entry) }
+        ensures refuses { (f : Refused) → entry_at (written K.Reckoned.own self.old) place ≡ Err f → (result ≡ Err f) × (self.new ≡ self.old) }
+        ensures table { SameTable K.Reckoned.own self.old self.new }
     {
         let old = self.at(place)?;
         self.raise_at(place, entry.join(old.inverse()));
@@ -75,8 +75,8 @@ impl<K: Reckoned> Cells<K> {
         requires first { 0 < place }
         requires last { place ≤ self.old.count }
         ensures counts { self.new.count ≡ self.old.count }
-        ensures joins { (e : K) → entry_at (written K.Reckoned self.old) place ≡ Ok e → written K.Reckoned self.new ≡ slice_set (written K.Reckoned self.old) (place - 1) (K.Reckoned.join e amount) }
-        ensures table { SameTable K.Reckoned self.old self.new }
+        ensures joins { (e : K) → entry_at (written K.Reckoned.own self.old) place ≡ Ok e → written K.Reckoned.own self.new ≡ slice_set (written K.Reckoned.own self.old) (place - 1) (K.join e amount) }
+        ensures table { SameTable K.Reckoned.own self.old self.new }
     {
         let count = self.count;
         raise(self.table.as_mut_slice(), count, place, amount);

@@ -12,7 +12,7 @@ impl<K: Reckoned> Cells<K> {
     pub fn over(table: Vec<K>) -> Self
         ensures empty { result.count ≡ 0 }
         ensures long { vec_len result.table ≡ vec_len table }
-        ensures cleared { Clean K.Reckoned result }
+        ensures cleared { Clean K.Reckoned.own result }
         ensures beyond { drop limit result.table.items ≡ drop limit table.items }
     {
         let mut table = table;

@@ -34,7 +34,7 @@ impl<K: Reckoned> Cells<K> {
     /// The entry at `place`, places counted from 1. Refused with 1 exactly when the place is 0 or
     /// above the count. Reads as many cells as two divides the place, and one.
     pub fn at(&self, place: u32) -> Result<K, Refusal>
-        ensures { result ≡ entry_at (written K.Reckoned self.now) place }
+        ensures { result ≡ entry_at (written K.Reckoned.own self.now) place }
     {
         if is_outside(place, self.count) {
             return Err(Refusal::NoPlace);
@@ -46,7 +46,7 @@ impl<K: Reckoned> Cells<K> {
     pub(crate) fn entry(&self, place: u32) -> K
         requires first { 0 < place }
         requires last { place ≤ self.now.count }
-        ensures { entry_at (written K.Reckoned self.now) place ≡ Ok result }
+        ensures { entry_at (written K.Reckoned.own self.now) place ≡ Ok result }
     {
         let cells = self.table.as_slice();
         cell_of(cells, place).join(others(cells, place).inverse())
@@ -55,7 +55,7 @@ impl<K: Reckoned> Cells<K> {
     /// The join of the first `i` entries, zero for none. Refused with 1 exactly when `i` is above
     /// the count. Reads as many cells as `i` has ones in binary.
     pub fn total(&self, i: u32) -> Result<K, Refusal>
-        ensures { result ≡ total_at K.Reckoned (written K.Reckoned self.now) i }
+        ensures { result ≡ total_at K.Reckoned.own (written K.Reckoned.own self.now) i }
     {
         if i > self.count {
             return Err(Refusal::NoPlace);
@@ -65,7 +65,7 @@ impl<K: Reckoned> Cells<K> {
 
     /// The join of all entries.
     pub fn sum(&self) -> K
-        ensures { result ≡ total K.Reckoned (written K.Reckoned self.now) }
+        ensures { result ≡ total K.Reckoned.own (written K.Reckoned.own self.now) }
     {
         joined(self.table.as_slice(), self.count)
     }

@@ -10,7 +10,7 @@ use kinds::Reckoned;
 pub(crate) fn cell_of<K: Reckoned>(cells: &[K], place: u32) -> K
     requires first { 0 < place }
     requires last { place ≤ length cells.now }
-    ensures { result ≡ cell K.Reckoned cells.now place }
+    ensures { result ≡ cell K.Reckoned.own cells.now place }
 {
     cells[place as usize - 1]
 }
@@ -19,7 +19,7 @@ pub(crate) fn cell_of<K: Reckoned>(cells: &[K], place: u32) -> K
 pub(crate) fn others<K: Reckoned>(cells: &[K], place: u32) -> K
     requires first { 0 < place }
     requires last { place - 1 ≤ length cells.now }
-    ensures { result ≡ besides K.Reckoned cells.now place }
+    ensures { result ≡ besides K.Reckoned.own cells.now place }
 {
     let mut sum = K::zero();
     for t in 0..place.trailing_zeros() {
@@ -31,7 +31,7 @@ pub(crate) fn others<K: Reckoned>(cells: &[K], place: u32) -> K
 // The join of the first so many entries.
 pub(crate) fn joined<K: Reckoned>(cells: &[K], count: u32) -> K
     requires { count ≤ length cells.now }
-    ensures { result ≡ total K.Reckoned (decoded K.Reckoned cells.now count) }
+    ensures { result ≡ total K.Reckoned.own (decoded K.Reckoned.own cells.now count) }
 {
     let mut sum = K::zero();
     let mut place = count;
@@ -47,7 +47,7 @@ pub(crate) fn raise<K: Reckoned>(cells: &mut [K], count: u32, place: u32, amount
     requires first { 0 < place }
     requires last { count ≤ length cells.old }
     requires few { count ≤ 1_048_576 }
-    ensures { Raised K.Reckoned cells.old cells.new count place amount }
+    ensures { Raised K.Reckoned.own cells.old cells.new count place amount }
 {
     let mut above = place;
     while above <= count {
@@ -60,7 +60,7 @@ pub(crate) fn raise<K: Reckoned>(cells: &mut [K], count: u32, place: u32, amount
 // Sets the first so many cells to zero.
 pub(crate) fn clear<K: Reckoned>(cells: &mut [K], count: usize)
     requires { count ≤ length cells.old }
-    ensures { cells.new ≡ replicate count K.Reckoned.zero ++ drop count cells.old }
+    ensures { cells.new ≡ replicate count K.zero ++ drop count cells.old }
 {
     for i in 0..count {
         cells[i] = K::zero();

@@ -35,9 +35,9 @@ impl<K: Reckoned> Ledger<K> {
     /// Carries out a call, or turns it down, and answers what its own method answers; of `Park` the
     /// unit number of the slip that the ledger keeps.
     pub fn call(&mut self, call: Call<K>) -> Answer<K>
-        ensures stays { SameBook K.Reckoned self.old.sheet self.new.sheet }
+        ensures stays { SameBook K.Reckoned.own self.old.sheet self.new.sheet }
         ensures unchanged { TurnedDown result self.old self.new }
-        ensures follows_history { Follows K.Kind K.Reckoned (by_slip self.old.sheet.unit call) self.old.sheet self.new.sheet result }
+        ensures follows_history { Follows K.Kind K.Reckoned.own (by_slip self.old.sheet.unit call) self.old.sheet self.new.sheet result }
     {
         match call {
             Call::Enter(e) => number(self.enter(e)),
@@ -55,9 +55,9 @@ impl<K: Reckoned> Ledger<K> {
 
     // Parks the sheet and tells the unit number of its slip.
     fn park_told(&mut self) -> Answer<K>
-        ensures stays { SameBook K.Reckoned self.old.sheet self.new.sheet }
+        ensures stays { SameBook K.Reckoned.own self.old.sheet self.new.sheet }
         ensures unchanged { TurnedDown result self.old self.new }
-        ensures follows_history { Follows K.Kind K.Reckoned ask-park self.old.sheet self.new.sheet result }
+        ensures follows_history { Follows K.Kind K.Reckoned.own ask-park self.old.sheet self.new.sheet result }
     {
         let unit = self.sheet.unit();
         match self.park() {
@@ -69,10 +69,10 @@ impl<K: Reckoned> Ledger<K> {
     /// Ends the ledger: gives up a slip still held and closes the sheet, whose entries stay as they
     /// are.
     pub fn close(self) -> ClosedSheet<K>
-        ensures stays { SameBook K.Reckoned self.sheet result.sheet }
+        ensures stays { SameBook K.Reckoned.own self.sheet result.sheet }
         ensures unaltered { result.sheet.cells ≡ self.sheet.cells }
         ensures unparked { result.sheet.parked ≡ Unparked }
-        ensures follows_history { (h : History K) → Keeps K.Kind K.Reckoned h self.sheet → Keeps K.Kind K.Reckoned (after K.Reckoned h (give_up self.sheet.unit)) result.sheet }
+        ensures follows_history { (h : History K) → Keeps K.Kind K.Reckoned.own h self.sheet → Keeps K.Kind K.Reckoned.own (after K.Reckoned.own h (give_up self.sheet.unit)) result.sheet }
     {
         let Ledger {
             mut sheet,

@@ -10,7 +10,7 @@ use sheets::ClosedSheet;
 fn same_cells<K: Reckoned>(cells: &[K], others: &[K], count: usize) -> bool
     requires first { count ≤ length cells.now }
     requires second { count ≤ length others.now }
-    ensures { MatchBool result ((k : ℕ) → k < count → slice_index_or cells.now k K.Reckoned.zero ≡ slice_index_or others.now k K.Reckoned.zero) ((k : ℕ) × (k < count) × (slice_index_or cells.now k K.Reckoned.zero ≢ slice_index_or others.now k K.Reckoned.zero)) }
+    ensures { MatchBool result ((k : ℕ) → k < count → slice_index_or cells.now k K.zero ≡ slice_index_or others.now k K.zero) ((k : ℕ) × (k < count) × (slice_index_or cells.now k K.zero ≢ slice_index_or others.now k K.zero)) }
 {
     for i in 0..count {
         if cells[i].number() != others[i].number() {
@@ -23,8 +23,8 @@ fn same_cells<K: Reckoned>(cells: &[K], others: &[K], count: usize) -> bool
 /// Whether two sheets have equal entries, told by their counts and their cells alone, since equal
 /// entries mean equal cells.
 pub fn agrees<K: Reckoned>(a: &ClosedSheet<K>, b: &ClosedSheet<K>) -> bool
-    ensures entries { MatchBool result (entries_of K.Reckoned a.now.sheet ≡ entries_of K.Reckoned b.now.sheet) (entries_of K.Reckoned a.now.sheet ≢ entries_of K.Reckoned b.now.sheet) }
-    ensures histories { (g h : History K) → Keeps K.Kind K.Reckoned g a.now.sheet → Keeps K.Kind K.Reckoned h b.now.sheet → MatchBool result (g.entries ≡ h.entries) (g.entries ≢ h.entries) }
+    ensures entries { MatchBool result (entries_of K.Reckoned.own a.now.sheet ≡ entries_of K.Reckoned.own b.now.sheet) (entries_of K.Reckoned.own a.now.sheet ≢ entries_of K.Reckoned.own b.now.sheet) }
+    ensures histories { (g h : History K) → Keeps K.Kind K.Reckoned.own g a.now.sheet → Keeps K.Kind K.Reckoned.own h b.now.sheet → MatchBool result (g.entries ≡ h.entries) (g.entries ≢ h.entries) }
 {
     let count = a.count();
     if count != b.count() {

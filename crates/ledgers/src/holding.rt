@@ -16,9 +16,9 @@ pub(crate) fn park<K: Reckoned>(
     requires { fit held.old sheet.old.unit sheet.old.parked ≡ true }
     ensures fits { fit held.new sheet.new.unit sheet.new.parked ≡ true }
     ensures refuses { result_err result ≡ refuses {K = K} (stands sheet.old) ask-park }
-    ensures stays { SameBook K.Reckoned sheet.old sheet.new }
+    ensures stays { SameBook K.Reckoned.own sheet.old sheet.new }
     ensures answers { MatchResult result (λ n. n ≡ sheet.new.cells.count) (λ _. (sheet.new ≡ sheet.old) × (held.new ≡ held.old)) }
-    ensures follows_history { Follows K.Kind K.Reckoned ask-park sheet.old sheet.new (slip_kept sheet.old.unit result) }
+    ensures follows_history { Follows K.Kind K.Reckoned.own ask-park sheet.old sheet.new (slip_kept sheet.old.unit result) }
 {
     let slip = sheet.park()?;
     *held = Some(slip);
@@ -33,9 +33,9 @@ pub(crate) fn restore<K: Reckoned>(
     requires { fit held.old sheet.old.unit sheet.old.parked ≡ true }
     ensures fits { fit held.new sheet.new.unit sheet.new.parked ≡ true }
     ensures refuses { result_err result ≡ refuses {K = K} (stands sheet.old) (ask-restore sheet.old.unit) }
-    ensures stays { SameBook K.Reckoned sheet.old sheet.new }
+    ensures stays { SameBook K.Reckoned.own sheet.old sheet.new }
     ensures answers { MatchResult result (λ n. n ≡ sheet.old.cells.count + 1) (λ _. (sheet.new ≡ sheet.old) × (held.new ≡ held.old)) }
-    ensures follows_history { Follows K.Kind K.Reckoned (ask-restore sheet.old.unit) sheet.old sheet.new (number_told result) }
+    ensures follows_history { Follows K.Kind K.Reckoned.own (ask-restore sheet.old.unit) sheet.old sheet.new (number_told result) }
 {
     let Some(slip) = held.take() else {
         return Err(Refusal::WrongSlip);
@@ -57,11 +57,11 @@ pub(crate) fn give_up<K: Reckoned>(
     requires { fit held.old sheet.old.unit sheet.old.parked ≡ true }
     ensures fits { fit held.new sheet.new.unit sheet.new.parked ≡ true }
     ensures refuses { result_err result ≡ refuses {K = K} (stands sheet.old) (give_up sheet.old.unit) }
-    ensures stays { SameBook K.Reckoned sheet.old sheet.new }
+    ensures stays { SameBook K.Reckoned.own sheet.old sheet.new }
     ensures answers { MatchResult result (λ n. n ≡ sheet.old.cells.count) (λ _. (sheet.new ≡ sheet.old) × (held.new ≡ held.old)) }
     ensures ended { sheet.new.parked ≡ Unparked }
     ensures unaltered { sheet.new.cells ≡ sheet.old.cells }
-    ensures follows_history { Follows K.Kind K.Reckoned (give_up sheet.old.unit) sheet.old sheet.new (number_told result) }
+    ensures follows_history { Follows K.Kind K.Reckoned.own (give_up sheet.old.unit) sheet.old sheet.new (number_told result) }
 {
     let Some(slip) = held.take() else {
         return Err(Refusal::WrongSlip);

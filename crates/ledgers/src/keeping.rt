@@ -15,7 +15,7 @@ use sheets::Sheet;
 impl<K: Reckoned> Ledger<K> {
     /// A ledger of a sheet of no entries, made of `table` as `Sheet::make` says.
     pub fn make(unit: u32, table: Vec<K>) -> Self
-        ensures begins_history { Keeps K.Kind K.Reckoned (begun K.Reckoned unit (own (vec_len table))) result.sheet }
+        ensures begins_history { Keeps K.Kind K.Reckoned.own (begun K.Reckoned.own unit (own (vec_len table))) result.sheet }
         ensures long { vec_len result.sheet.cells.table ≡ vec_len table }
         ensures beyond { drop limit result.sheet.cells.table.items ≡ drop limit table.items }
         ensures unit { result.sheet.unit ≡ unit }
@@ -36,9 +36,9 @@ impl<K: Reckoned> Ledger<K> {
     /// Adds an entry at the end and answers the new count. Refused as `Sheet::enter`.
     pub fn enter(&mut self, entry: K) -> Result<u32, Refusal>
         ensures refuses { result_err result ≡ refuses (stands self.old.sheet) (ask-enter entry) }
-        ensures stays { SameBook K.Reckoned self.old.sheet self.new.sheet }
+        ensures stays { SameBook K.Reckoned.own self.old.sheet self.new.sheet }
         ensures unchanged { Unchanged result self.old self.new }
-        ensures follows_history { Follows K.Kind K.Reckoned (ask-enter entry) self.old.sheet self.new.sheet (number_told result) }
+        ensures follows_history { Follows K.Kind K.Reckoned.own (ask-enter entry) self.old.sheet self.new.sheet (number_told result) }
     {
         self.sheet.enter(entry)
     }
@@ -46,9 +46,9 @@ impl<K: Reckoned> Ledger<K> {
     /// Puts `entry` at `place` and answers the entry that stood there. Refused as `Sheet::correct`.
     pub fn correct(&mut self, place: u32, entry: K) -> Result<K, Refusal>
         ensures refuses { result_err result ≡ refuses (stands self.old.sheet) (ask-correct place entry) }
-        ensures stays { SameBook K.Reckoned self.old.sheet self.new.sheet }
+        ensures stays { SameBook K.Reckoned.own self.old.sheet self.new.sheet }
         ensures unchanged { Unchanged result self.old self.new }
-        ensures follows_history { Follows K.Kind K.Reckoned (ask-correct place entry) self.old.sheet self.new.sheet (entry_told result) }
+        ensures follows_history { Follows K.Kind K.Reckoned.own (ask-correct place entry) self.old.sheet self.new.sheet (entry_told result) }
     {
         self.sheet.correct(place, entry)
     }
@@ -56,9 +56,9 @@ impl<K: Reckoned> Ledger<K> {
     /// Joins `amount` to the entry at `place` and answers the new entry. Refused as `Sheet::shift`.
     pub fn shift(&mut self, place: u32, amount: K) -> Result<K, Refusal>
         ensures refuses { result_err result ≡ refuses (stands self.old.sheet) (ask-shift place amount) }
-        ensures stays { SameBook K.Reckoned self.old.sheet self.new.sheet }
+        ensures stays { SameBook K.Reckoned.own self.old.sheet self.new.sheet }
         ensures unchanged { Unchanged result self.old self.new }
-        ensures follows_history { Follows K.Kind K.Reckoned (ask-shift place amount) self.old.sheet self.new.sheet (entry_told result) }
+        ensures follows_history { Follows K.Kind K.Reckoned.own (ask-shift place amount) self.old.sheet self.new.sheet (entry_told result) }
     {
         self.sheet.shift(place, amount)
     }
@@ -66,9 +66,9 @@ impl<K: Reckoned> Ledger<K> {
     /// Removes the last entry and answers it. Refused as `Sheet::strike`.
     pub fn strike(&mut self) -> Result<K, Refusal>
         ensures refuses { result_err result ≡ refuses {K = K} (stands self.old.sheet) ask-strike }
-        ensures stays { SameBook K.Reckoned self.old.sheet self.new.sheet }
+        ensures stays { SameBook K.Reckoned.own self.old.sheet self.new.sheet }
         ensures unchanged { Unchanged result self.old self.new }
-        ensures follows_history { Follows K.Kind K.Reckoned ask-strike self.old.sheet self.new.sheet (entry_told result) }
+        ensures follows_history { Follows K.Kind K.Reckoned.own ask-strike self.old.sheet self.new.sheet (entry_told result) }
     {
         self.sheet.strike()
     }
@@ -76,9 +76,9 @@ impl<K: Reckoned> Ledger<K> {
     /// Parks the sheet, keeps its slip and answers the new count. Refused as `Sheet::park`.
     pub fn park(&mut self) -> Result<u32, Refusal>
         ensures refuses { result_err result ≡ refuses {K = K} (stands self.old.sheet) ask-park }
-        ensures stays { SameBook K.Reckoned self.old.sheet self.new.sheet }
+        ensures stays { SameBook K.Reckoned.own self.old.sheet self.new.sheet }
         ensures answers { MatchResult result (λ n. n ≡ self.new.sheet.cells.count) (λ _. (self.new.sheet ≡ self.old.sheet) × (self.new.slip ≡ self.old.slip)) }
-        ensures follows_history { Follows K.Kind K.Reckoned ask-park self.old.sheet self.new.sheet (slip_kept self.old.sheet.unit result) }
+        ensures follows_history { Follows K.Kind K.Reckoned.own ask-park self.old.sheet self.new.sheet (slip_kept self.old.sheet.unit result) }
     {
         holding::park(&mut self.sheet, &mut self.slip)
     }
@@ -87,9 +87,9 @@ impl<K: Reckoned> Ledger<K> {
     /// slip is held.
     pub fn restore(&mut self) -> Result<u32, Refusal>
         ensures refuses { result_err result ≡ refuses {K = K} (stands self.old.sheet) (ask-restore self.old.sheet.unit) }
-        ensures stays { SameBook K.Reckoned self.old.sheet self.new.sheet }
+        ensures stays { SameBook K.Reckoned.own self.old.sheet self.new.sheet }
         ensures answers { MatchResult result (λ n. n ≡ self.old.sheet.cells.count + 1) (λ _. (self.new.sheet ≡ self.old.sheet) × (self.new.slip ≡ self.old.slip)) }
-        ensures follows_history { Follows K.Kind K.Reckoned (ask-restore self.old.sheet.unit) self.old.sheet self.new.sheet (number_told result) }
+        ensures follows_history { Follows K.Kind K.Reckoned.own (ask-restore self.old.sheet.unit) self.old.sheet self.new.sheet (number_told result) }
     {
         holding::restore(&mut self.sheet, &mut self.slip)
     }
@@ -98,9 +98,9 @@ impl<K: Reckoned> Ledger<K> {
     /// held.
     pub fn give_up(&mut self) -> Result<u32, Refusal>
         ensures refuses { result_err result ≡ refuses {K = K} (stands self.old.sheet) (give_up self.old.sheet.unit) }
-        ensures stays { SameBook K.Reckoned self.old.sheet self.new.sheet }
+        ensures stays { SameBook K.Reckoned.own self.old.sheet self.new.sheet }
         ensures answers { MatchResult result (λ n. n ≡ self.old.sheet.cells.count) (λ _. (self.new.sheet ≡ self.old.sheet) × (self.new.slip ≡ self.old.slip)) }
-        ensures follows_history { Follows K.Kind K.Reckoned (give_up self.old.sheet.unit) self.old.sheet self.new.sheet (number_told result) }
+        ensures follows_history { Follows K.Kind K.Reckoned.own (give_up self.old.sheet.unit) self.old.sheet self.new.sheet (number_told result) }
     {
         holding::give_up(&mut self.sheet, &mut self.slip)
     }

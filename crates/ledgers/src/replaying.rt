@@ -33,7 +33,7 @@ pub struct Unplayed<K> {
 
 // The total of all entries of a closed sheet.
 fn total_of<K: Reckoned>(book: &ClosedSheet<K>) -> K
-    ensures { result ≡ joined K.Reckoned (entries_of K.Reckoned book.now.sheet) }
+    ensures { result ≡ joined K.Reckoned.own (entries_of K.Reckoned.own book.now.sheet) }
 {
     match book.total(book.count()) {
         Ok(total) => total,
@@ -54,7 +54,7 @@ pub fn replay<K: Reckoned>(
     table: Vec<K>,
     calls: &[Call<K>],
 ) -> Result<Replayed<K>, Unplayed<K>>
-    ensures { MatchResult result (λ s. Law K.Kind K.Reckoned unit table.items calls.now s.book.sheet s.total s.answers.items) (λ u. (u.table ≡ table) × (u.refusal ≡ numbered 24)) }
+    ensures { MatchResult result (λ s. Law K.Kind K.Reckoned.own unit table.items calls.now s.book.sheet s.total s.answers.items) (λ u. (u.table ≡ table) × (u.refusal ≡ numbered 24)) }
 {
     let mut answers = match Vec::with_capacity(heap, calls.len()) {
         Ok(answers) => answers,

@@ -13,7 +13,7 @@ impl<K: Reckoned> Totals<K> {
     /// The totals of the first 1, 2, 3 .. entries of `run`. Refused with 24, and only for want of
     /// memory.
     pub fn over<R: Run<Entry = K>>(heap: Global, run: &R) -> Result<Self, Refusal>
-        ensures { MatchResult result (λ t. t.joins.items ≡ running K.Reckoned (R.Run.entries run.now)) (λ f. f ≡ refusal 24) }
+        ensures { MatchResult result (λ t. t.joins.items ≡ running K.Reckoned.own (R.Run.entries run.now)) (λ f. f ≡ refusal 24) }
     {
         let count = run.count();
         let mut joins = Vec::with_capacity(heap, count as usize)?;

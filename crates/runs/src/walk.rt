@@ -13,7 +13,7 @@ use kinds::{Kind, Reckoned, Refusal, Steps};
 pub fn total<R: Run>(run: &R, i: u32) -> Result<R::Entry, Refusal>
 where
     R::Entry: Reckoned,
-    ensures { result ≡ total_at R.Entry.Reckoned (R.Run.entries run.now) i }
+    ensures { result ≡ total_at R.Entry.Reckoned.own (R.Run.entries run.now) i }
 {
     if i > run.count() {
         return Err(Refusal::NoPlace);

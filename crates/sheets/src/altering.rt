@@ -14,8 +14,8 @@ pub(crate) fn add<K: Reckoned>(cells: &mut Cells<K>, entry: K) -> u32
     requires { cells.old.count < own (vec_len cells.old.table) }
     ensures answers { result ≡ cells.old.count + 1 }
     ensures counts { cells.new.count ≡ cells.old.count + 1 }
-    ensures adds { written K.Reckoned cells.new ≡ written K.Reckoned cells.old ++ (entry ∷ []) }
-    ensures table { SameTable K.Reckoned cells.old cells.new }
+    ensures adds { written K.Reckoned.own cells.new ≡ written K.Reckoned.own cells.old ++ (entry ∷ []) }
+    ensures table { SameTable K.Reckoned.own cells.old cells.new }
 {
     match cells.push(entry) {
         Ok(count) => count,
@@ -28,9 +28,9 @@ impl<K: Reckoned> Sheet<K> {
     /// free, or only one while an amount is parked.
     pub fn enter(&mut self, entry: K) -> Result<u32, Refusal>
         ensures refuses { result_err result ≡ refuses (stands self.old) (ask-enter entry) }
-        ensures stays { SameBook K.Reckoned self.old self.new }
-        ensures leaves { MatchResult result (Entered K.Kind K.Reckoned self.old self.new entry) (λ _. self.new ≡ self.old) }
-        ensures follows_history { Follows K.Kind K.Reckoned (ask-enter entry) self.old self.new (number_told result) }
+        ensures stays { SameBook K.Reckoned.own self.old self.new }
+        ensures leaves { MatchResult result (Entered K.Kind K.Reckoned.own self.old self.new entry) (λ _. self.new ≡ self.old) }
+        ensures follows_history { Follows K.Kind K.Reckoned.own (ask-enter entry) self.old self.new (number_told result) }
     {
         if self.free() < self.wanted() {
             return Err(Refusal::NoCells);
@@ -41,9 +41,9 @@ impl<K: Reckoned> Sheet<K> {
     /// the place is 0 or above the count.
     pub fn correct(&mut self, place: u32, entry: K) -> Result<K, Refusal>
         ensures refuses { result_err result ≡ refuses (stands self.old) (ask-correct place entry) }
-        ensures stays { SameBook K.Reckoned self.old self.new }
-        ensures leaves { MatchResult result (Corrected K.Kind K.Reckoned self.old self.new place entry) (λ _. self.new ≡ self.old) }
-        ensures follows_history { Follows K.Kind K.Reckoned (ask-correct place entry) self.old self.new (entry_told result) }
+        ensures stays { SameBook K.Reckoned.own self.old self.new }
+        ensures leaves { MatchResult result (Corrected K.Kind K.Reckoned.own self.old self.new place entry) (λ _. self.new ≡ self.old) }
+        ensures follows_history { Follows K.Kind K.Reckoned.own (ask-correct place entry) self.old self.new (entry_told result) }
     {
         self.cells.put(place, entry)
     }
@@ -52,9 +52,9 @@ impl<K: Reckoned> Sheet<K> {
     /// when the place is 0 or above the count.
     pub fn shift(&mut self, place: u32, amount: K) -> Result<K, Refusal>
         ensures refuses { result_err result ≡ refuses (stands self.old) (ask-shift place amount) }
-        ensures stays { SameBook K.Reckoned self.old self.new }
-        ensures leaves { MatchResult result (Shifted K.Kind K.Reckoned self.old self.new place amount) (λ _. self.new ≡ self.old) }
-        ensures follows_history { Follows K.Kind K.Reckoned (ask-shift place amount) self.old self.new (entry_told result) }
+        ensures stays { SameBook K.Reckoned.own self.old self.new }
+        ensures leaves { MatchResult result (Shifted K.Kind K.Reckoned.own self.old self.new place amount) (λ _. self.new ≡ self.old) }
+        ensures follows_history { Follows K.Kind K.Reckoned.own (ask-shift place amount) self.old self.new (entry_told result) }
     {
         self.cells.join_at(place, amount)
     }
@@ -62,9 +62,9 @@ impl<K: Reckoned> Sheet<K> {
     /// Removes the last entry and answers it. Refused with 3 exactly when there is none.
     pub fn strike(&mut self) -> Result<K, Refusal>
         ensures refuses { result_err result ≡ refuses {K = K} (stands self.old) ask-strike }
-        ensures stays { SameBook K.Reckoned self.old self.new }
-        ensures leaves { MatchResult result (Struck K.Kind K.Reckoned self.old self.new) (λ _. self.new ≡ self.old) }
-        ensures follows_history { Follows K.Kind K.Reckoned ask-strike self.old self.new (entry_told result) }
+        ensures stays { SameBook K.Reckoned.own self.old self.new }
+        ensures leaves { MatchResult result (Struck K.Kind K.Reckoned.own self.old self.new) (λ _. self.new ≡ self.old) }
+        ensures follows_history { Follows K.Kind K.Reckoned.own ask-strike self.old self.new (entry_told result) }
     {
         self.cells.pop()
     }

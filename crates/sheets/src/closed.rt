@@ -23,7 +23,7 @@ impl<K: Reckoned> Sheet<K> {
     /// those of the run that it is.
     pub fn close(self) -> ClosedSheet<K>
         ensures unaltered { result.sheet ≡ self }
-        ensures keeps_history { (h : History K) → Keeps K.Kind K.Reckoned h self → Keeps K.Kind K.Reckoned h result.sheet × (entries_of K.Reckoned result.sheet ≡ h.entries) }
+        ensures keeps_history { (h : History K) → Keeps K.Kind K.Reckoned.own h self → Keeps K.Kind K.Reckoned.own h result.sheet × (entries_of K.Reckoned.own result.sheet ≡ h.entries) }
     {
         ClosedSheet { sheet: self }
     }
@@ -33,7 +33,7 @@ impl<K: Reckoned> ClosedSheet<K> {
     /// How many entries there are.
     pub fn count(&self) -> u32
         ensures counts { result ≡ self.now.sheet.cells.count }
-        ensures follows_history { Follows K.Kind K.Reckoned ask-count self.now.sheet self.now.sheet (number_told (Ok result)) }
+        ensures follows_history { Follows K.Kind K.Reckoned.own ask-count self.now.sheet self.now.sheet (number_told (Ok result)) }
     {
         self.sheet.count()
     }
@@ -48,8 +48,8 @@ impl<K: Reckoned> ClosedSheet<K> {
     /// The entry at `place`, places counted from 1. Refused with 1 exactly when the place is 0 or
     /// above the count.
     pub fn at(&self, place: u32) -> Result<K, Refusal>
-        ensures answers { result ≡ entry_at (entries_of K.Reckoned self.now.sheet) place }
-        ensures follows_history { Follows K.Kind K.Reckoned (ask-at place) self.now.sheet self.now.sheet (entry_told result) }
+        ensures answers { result ≡ entry_at (entries_of K.Reckoned.own self.now.sheet) place }
+        ensures follows_history { Follows K.Kind K.Reckoned.own (ask-at place) self.now.sheet self.now.sheet (entry_told result) }
     {
         self.sheet.at(place)
     }
@@ -57,8 +57,8 @@ impl<K: Reckoned> ClosedSheet<K> {
     /// The join of the first `i` entries, zero for none. Refused with 1 exactly when `i` is above
     /// the count.
     pub fn total(&self, i: u32) -> Result<K, Refusal>
-        ensures answers { result ≡ total_at K.Reckoned (entries_of K.Reckoned self.now.sheet) i }
-        ensures follows_history { Follows K.Kind K.Reckoned (total_of i) self.now.sheet self.now.sheet (entry_told result) }
+        ensures answers { result ≡ total_at K.Reckoned.own (entries_of K.Reckoned.own self.now.sheet) i }
+        ensures follows_history { Follows K.Kind K.Reckoned.own (total_of i) self.now.sheet self.now.sheet (entry_told result) }
     {
         self.sheet.total(i)
     }
@@ -68,9 +68,9 @@ impl<K: Reckoned> ClosedSheet<K> {
     /// back.
     pub fn give_up(&mut self, slip: Slip) -> Result<u32, HandedBack>
         ensures refuses { result_err (without_slip result) ≡ refuses {K = K} (stands self.old.sheet) (give_up slip.unit) }
-        ensures stays { SameBook K.Reckoned self.old.sheet self.new.sheet }
-        ensures leaves { MatchResult result (GivenUp K.Kind K.Reckoned self.old.sheet self.new.sheet) (λ back. (back.slip ≡ slip) × (self.new.sheet ≡ self.old.sheet)) }
-        ensures follows_history { Follows K.Kind K.Reckoned (give_up slip.unit) self.old.sheet self.new.sheet (number_told (without_slip result)) }
+        ensures stays { SameBook K.Reckoned.own self.old.sheet self.new.sheet }
+        ensures leaves { MatchResult result (GivenUp K.Kind K.Reckoned.own self.old.sheet self.new.sheet) (λ back. (back.slip ≡ slip) × (self.new.sheet ≡ self.old.sheet)) }
+        ensures follows_history { Follows K.Kind K.Reckoned.own (give_up slip.unit) self.old.sheet self.new.sheet (number_told (without_slip result)) }
     {
         self.sheet.give_up(slip)
     }
@@ -80,9 +80,9 @@ impl<K: Reckoned> ClosedSheet<K> {
 impl<K: Reckoned> Run for ClosedSheet<K> {
     type Entry = K;
 
-    ghost entries = { λ s. entries_of K.Reckoned s.sheet };
+    ghost entries = { λ s. entries_of K.Reckoned.own s.sheet };
 
-    ghost few = { λ s. entries_few K.Reckoned s.sheet };
+    ghost few = { λ s. entries_few K.Reckoned.own s.sheet };
 
     fn count(&self) -> u32 {
         ClosedSheet::count(self)

@@ -26,9 +26,9 @@ impl<K: Reckoned> Sheet<K> {
     /// amount is parked already, else with 2 exactly when fewer than two cells are free.
     pub fn park(&mut self) -> Result<Slip, Refusal>
         ensures refuses { result_err result ≡ refuses {K = K} (stands self.old) ask-park }
-        ensures stays { SameBook K.Reckoned self.old self.new }
-        ensures leaves { MatchResult result (Parked K.Kind K.Reckoned self.old self.new) (λ _. self.new ≡ self.old) }
-        ensures follows_history { Follows K.Kind K.Reckoned ask-park self.old self.new (slip_told result) }
+        ensures stays { SameBook K.Reckoned.own self.old self.new }
+        ensures leaves { MatchResult result (Parked K.Kind K.Reckoned.own self.old self.new) (λ _. self.new ≡ self.old) }
+        ensures follows_history { Follows K.Kind K.Reckoned.own ask-park self.old self.new (slip_told result) }
     {
         if self.parked.is_some() {
             return Err(Refusal::AlreadyParked);
@@ -57,9 +57,9 @@ impl<K: Reckoned> Sheet<K> {
     /// is then handed back.
     pub fn restore(&mut self, slip: Slip) -> Result<u32, HandedBack>
         ensures refuses { result_err (without_slip result) ≡ refuses {K = K} (stands self.old) (ask-restore slip.unit) }
-        ensures stays { SameBook K.Reckoned self.old self.new }
-        ensures leaves { MatchResult result (Restored K.Kind K.Reckoned self.old self.new) (λ back. (back.slip ≡ slip) × (self.new ≡ self.old)) }
-        ensures follows_history { Follows K.Kind K.Reckoned (ask-restore slip.unit) self.old self.new (number_told (without_slip result)) }
+        ensures stays { SameBook K.Reckoned.own self.old self.new }
+        ensures leaves { MatchResult result (Restored K.Kind K.Reckoned.own self.old self.new) (λ back. (back.slip ≡ slip) × (self.new ≡ self.old)) }
+        ensures follows_history { Follows K.Kind K.Reckoned.own (ask-restore slip.unit) self.old self.new (number_told (without_slip result)) }
     {
         let Some(number) = self.parked_under(&slip) else {
             return Err(slip.hand_back());
@@ -74,9 +74,9 @@ impl<K: Reckoned> Sheet<K> {
     /// back.
     pub fn give_up(&mut self, slip: Slip) -> Result<u32, HandedBack>
         ensures refuses { result_err (without_slip result) ≡ refuses {K = K} (stands self.old) (give_up slip.unit) }
-        ensures stays { SameBook K.Reckoned self.old self.new }
-        ensures leaves { MatchResult result (GivenUp K.Kind K.Reckoned self.old self.new) (λ back. (back.slip ≡ slip) × (self.new ≡ self.old)) }
-        ensures follows_history { Follows K.Kind K.Reckoned (give_up slip.unit) self.old self.new (number_told (without_slip result)) }
+        ensures stays { SameBook K.Reckoned.own self.old self.new }
+        ensures leaves { MatchResult result (GivenUp K.Kind K.Reckoned.own self.old self.new) (λ back. (back.slip ≡ slip) × (self.new ≡ self.old)) }
+        ensures follows_history { Follows K.Kind K.Reckoned.own (give_up slip.unit) self.old self.new (number_told (without_slip result)) }
     {
         let Some(_) = self.parked_under(&slip) else {
             return Err(slip.hand_back());

@@ -18,7 +18,7 @@ impl<K: Reckoned> Sheet<K> {
     /// How many entries there are.
     pub fn count(&self) -> u32
         ensures counts { result ≡ self.now.cells.count }
-        ensures follows_history { Follows K.Kind K.Reckoned ask-count self.now self.now (number_told (Ok result)) }
+        ensures follows_history { Follows K.Kind K.Reckoned.own ask-count self.now self.now (number_told (Ok result)) }
     {
         self.cells.count()
     }
@@ -33,8 +33,8 @@ impl<K: Reckoned> Sheet<K> {
     /// The entry at `place`, places counted from 1. Refused with 1 exactly when the place is 0 or
     /// above the count.
     pub fn at(&self, place: u32) -> Result<K, Refusal>
-        ensures answers { result ≡ entry_at (entries_of K.Reckoned self.now) place }
-        ensures follows_history { Follows K.Kind K.Reckoned (ask-at place) self.now self.now (entry_told result) }
+        ensures answers { result ≡ entry_at (entries_of K.Reckoned.own self.now) place }
+        ensures follows_history { Follows K.Kind K.Reckoned.own (ask-at place) self.now self.now (entry_told result) }
     {
         self.cells.at(place)
     }
@@ -42,8 +42,8 @@ impl<K: Reckoned> Sheet<K> {
     /// The join of the first `i` entries, zero for none. Refused with 1 exactly when `i` is above
     /// the count.
     pub fn total(&self, i: u32) -> Result<K, Refusal>
-        ensures answers { result ≡ total_at K.Reckoned (entries_of K.Reckoned self.now) i }
-        ensures follows_history { Follows K.Kind K.Reckoned (total_of i) self.now self.now (entry_told result) }
+        ensures answers { result ≡ total_at K.Reckoned.own (entries_of K.Reckoned.own self.now) i }
+        ensures follows_history { Follows K.Kind K.Reckoned.own (total_of i) self.now self.now (entry_told result) }
     {
         self.cells.total(i)
     }

@@ -18,7 +18,7 @@ impl<K: Reckoned> Sheet<K> {
     /// The entries so far, as a run, without taking the sheet up.
     pub fn entries(&self) -> Entries<'_, K>
         ensures lends { result.sheet.now ≡ self.now }
-        ensures has_history { (h : History K) → Keeps K.Kind K.Reckoned h self.now → entries_of K.Reckoned result.sheet.now ≡ h.entries }
+        ensures has_history { (h : History K) → Keeps K.Kind K.Reckoned.own h self.now → entries_of K.Reckoned.own result.sheet.now ≡ h.entries }
     {
         Entries { sheet: self }
     }
@@ -28,9 +28,9 @@ impl<K: Reckoned> Sheet<K> {
 impl<'a, K: Reckoned> Run for Entries<'a, K> {
     type Entry = K;
 
-    ghost entries = { λ s. entries_of K.Reckoned s.sheet.now };
+    ghost entries = { λ s. entries_of K.Reckoned.own s.sheet.now };
 
-    ghost few = { λ s. entries_few K.Reckoned s.sheet.now };
+    ghost few = { λ s. entries_few K.Reckoned.own s.sheet.now };
 
     fn count(&self) -> u32 {
         self.sheet.count()

@@ -1,7 +1,7 @@
 //! How faults are numbered.
 ghost use Rattle.kinds.specs.Kinds.{faults, code_of, width_of};
 ghost use Rattle.kinds.specs.Entries.{same_faults};
-ghost use Rattle.std.proofs.Common.{rules, arith};
+ghost use Rattle.std.proofs.Common.{rules};
 
 use crate::faults::Faults;
 use crate::laws::Kind;
@@ -17,11 +17,11 @@ impl Kind for Faults {
 
     ghost number = { λ e. e.value };
 
-    ghost narrow = { first_of (Prim.search rules, Prim.grind (arith, Self.row.coded.inj)) };
+    ghost narrow = { Prim.search rules };
 
-    ghost coded = { first_of (Prim.search rules, Prim.grind (arith, Self.row.coded.inj)) };
+    ghost coded = { Prim.search rules };
 
-    ghost fits = { first_of (Prim.search rules, Prim.grind (arith, Self.row.coded.inj)) };
+    ghost fits = { Prim.search rules };
 
     ghost distinct = { same_faults };
 

@@ -2,7 +2,7 @@
 ghost use Rattle.kinds.specs.Kinds.{flags, code_of, width_of};
 ghost use Rattle.kinds.specs.Flags.{none, both, back};
 ghost use Rattle.kinds.specs.Entries.{same_flags, flags_group};
-ghost use Rattle.std.proofs.Common.{rules, arith};
+ghost use Rattle.std.proofs.Common.{rules};
 
 use crate::flags::Flags;
 use crate::laws::{Kind, Reckoned};
@@ -18,11 +18,11 @@ impl Kind for Flags {
 
     ghost number = { λ e. e.value };
 
-    ghost narrow = { first_of (Prim.search rules, Prim.grind (arith, Self.row.coded.inj)) };
+    ghost narrow = { Prim.search rules };
 
-    ghost coded = { first_of (Prim.search rules, Prim.grind (arith, Self.row.coded.inj)) };
+    ghost coded = { Prim.search rules };
 
-    ghost fits = { first_of (Prim.search rules, Prim.grind (arith, Self.row.coded.inj)) };
+    ghost fits = { Prim.search rules };
 
     ghost distinct = { same_flags };
 

@@ -2,7 +2,7 @@
 ghost use Rattle.kinds.specs.Kinds.{steps, code_of, width_of};
 ghost use Rattle.kinds.specs.Steps.{zigzag, none, both, back};
 ghost use Rattle.kinds.specs.Entries.{zigzag_fits, same_steps, zigzag_distinct, steps_group};
-ghost use Rattle.std.proofs.Common.{rules, arith};
+ghost use Rattle.std.proofs.Common.{rules};
 
 use crate::laws::{Kind, Reckoned};
 use crate::steps::Steps;
@@ -18,9 +18,9 @@ impl Kind for Steps {
 
     ghost number = { λ e. zigzag e.value };
 
-    ghost narrow = { first_of (Prim.search rules, Prim.grind (arith, Self.row.coded.inj)) };
+    ghost narrow = { Prim.search rules };
 
-    ghost coded = { first_of (Prim.search rules, Prim.grind (arith, Self.row.coded.inj)) };
+    ghost coded = { Prim.search rules };
 
     ghost fits = { λ e. zigzag_fits e.value e.fits };
 

@@ -6,14 +6,14 @@ use Rattle.std.proofs.lemmas.Bool.{cases_lt}
 use Rattle.std.specs.Str.Parse.{AllDigits, digits_value}
 use Rattle.std.specs.Char.{digit_value}
 
-pub returns-in-err-n : goal.returns-in-err-n
-returns-in-err-n c =
+pub returns-in_err-n : goal.returns-in_err-n
+returns-in_err-n c =
     let bs = c.args.text.now in
     let i = c.loop-b.b-index in
     let d = digit_value (get_or bs i 0) in
-    rw c.from-residual.ensures (λ m small is.
+    rw c.from_residual.ensures (λ m small is.
     ⊎_elim
-    (λ h. not_large bs m small is i c.loop-b-test.true (rw (sym c.loop-b.invariant.1) (c.in-err-n.ensures h)))
+    (λ h. not_large bs m small is i c.loop-b-test.true (rw (sym c.loop-b.invariant.1) (c.in_err-n.ensures h)))
     (λ h. all_digits bs m small is i c.loop-b-test.true h)
     (cases_lt d 10))
 
@@ -21,12 +21,12 @@ pub loop-b-preserved : goal.loop-b-preserved
 loop-b-preserved c =
     let bs = c.args.text.now in
     let i = c.loop-b.b-index in
-    let got = c.in-ok-n.ensures in
+    let got = c.in_ok-n.ensures in
     (digits_more 10 bs i c.loop-b-test.true c.loop-b.invariant.0 got.0, omega (arith, got.1, c.loop-b.invariant.1, digits_value_more 10 bs i c.loop-b-test.true), got.2)
 
 pub returns : goal.returns
 returns c =
     let bs = c.args.text.now in
     let whole = take_all c.loop-b.b-index bs c.loop-b-test.false in
-    let begun = c.if-not-well-begun.ensures in
+    let begun = c.if-not-well_begun.ensures in
     spelled bs c.loop-b.n (subst (AllDigits 10) whole c.loop-b.invariant.0) (c.loop-b.invariant.1 ∙ ap (digits_value 10) whole) c.loop-b.invariant.2 begun.0 begun.1

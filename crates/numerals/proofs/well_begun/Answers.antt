@@ -5,5 +5,5 @@ use Rattle.std.proofs.Common.{arith}
 pub returns-in-0 : goal.returns-in-0
 returns-in-0 c = λ n small is. omega (arith, not_empty c.args.text.now n small is)
 
-pub returns-in-default : goal.returns-in-default
-returns-in-default c = begun c.args.text.now c.from.result (omega arith) c.from.ensures
+pub returns-in_default : goal.returns-in_default
+returns-in_default c = begun c.args.text.now c.from.result (omega arith) c.from.ensures

@@ -3,15 +3,15 @@ use Rattle.bits.proofs.chunks.replaced.Goals as goal
 use Rattle.bits.specs.Packed.{bits_of}
 use Rattle.std.proofs.Common.{arith}
 
-pub overflow-sub-result : goal.overflow-sub-result
-overflow-sub-result c =
+pub overflow_sub-result : goal.overflow_sub-result
+overflow_sub-result c =
     let w = c.args.word in
     let s = c.args.shift in
     let b = bits_of c.args.width in
     omega (arith, old_shifted w s b c.args.x c.requires.within c.ranges.word.fits c.args.old c.requires.old, parts w s b c.args.x c.requires.within c.ranges.word.fits)
 
-pub overflow-add-result : goal.overflow-add-result
-overflow-add-result c =
+pub overflow_add-result : goal.overflow_add-result
+overflow_add-result c =
     let w = c.args.word in
     let s = c.args.shift in
     let b = bits_of c.args.width in

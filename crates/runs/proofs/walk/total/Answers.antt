@@ -11,7 +11,7 @@ pub loop-k-preserved : goal.loop-k-preserved
 loop-k-preserved g c =
     let laws = group_of g.met.R.Entry.Reckoned in
     c.join-sum.ensures
-    ∙ total_read g.R.Entry.Reckoned (g.R.Run.entries c.args.run.now) c.loop-k.k _ _ laws (omega (arith, c.count.ensures)) c.entry-of.ensures c.loop-k.invariant
+    ∙ total_read g.R.Entry.Reckoned (g.R.Run.entries c.args.run.now) c.loop-k.k _ _ laws (omega (arith, c.count.ensures)) c.entry_of.ensures c.loop-k.invariant
 
 pub returns : goal.returns
 returns g c =

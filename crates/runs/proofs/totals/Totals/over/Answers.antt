@@ -8,11 +8,11 @@ loop-i-preserved g c =
     let laws = group_of g.met.K.Reckoned in
     let xs = g.R.Run.entries c.args.run.now in
     let i = c.loop-i.i in
-    let joined = c.join-sum.ensures ∙ total_read g.K.Reckoned xs i _ _ laws (omega (arith, c.count-count.ensures)) c.entry-of.ensures c.loop-i.invariant.0 in
-    (joined, c.push-reserved.ensures.items ∙ running_more g.K.Reckoned xs i _ _ c.loop-i.invariant.1 joined, omega arith, omega (arith, c.push-reserved.ensures.capacity))
+    let joined = c.join-sum.ensures ∙ total_read g.K.Reckoned xs i _ _ laws (omega (arith, c.count-count.ensures)) c.entry_of.ensures c.loop-i.invariant.0 in
+    (joined, c.push_reserved.ensures.items ∙ running_more g.K.Reckoned xs i _ _ c.loop-i.invariant.1 joined, omega arith, omega (arith, c.push_reserved.ensures.capacity))
 
-pub invariant-of-result : goal.invariant-of-result
-invariant-of-result g c = (omega (arith, c.loop-i.joins.ok.0, c.count-count.type-inv), tt)
+pub invariant_of-result : goal.invariant_of-result
+invariant_of-result g c = record { few = omega (arith, c.loop-i.joins.ok.0, c.count-count.type_inv) }
 
 pub returns : goal.returns
 returns g c =
