@@ -15,7 +15,7 @@ use std::alloc::Global;
 /// only then, or with 24 for want of memory; no record is written then. In which order the records
 /// stand is not promised.
 pub fn tally<R: Run>(heap: Global, run: &R, records: &mut [TallyRecord]) -> Result<u32, Refusal>
-    ensures { Answered (map Entry-as-Kind.number (R.Run.entries run.now)) records.old records.new result }
+    ensures { Answered (map R.Entry.Kind.number (R.Run.entries run.now)) records.old records.new result }
 {
     let counts = counted(heap, run)?;
     write_front(records, counts.as_slice())
@@ -23,10 +23,10 @@ pub fn tally<R: Run>(heap: Global, run: &R, records: &mut [TallyRecord]) -> Resu
 
 // The records of a run.
 fn counted<R: Run>(heap: Global, run: &R) -> Result<Vec<TallyRecord>, Refusal>
-    ensures { MatchResult result (λ v. Tallied (map Entry-as-Kind.number (R.Run.entries run.now)) v.items × (length v.items < 2 ^ 32)) (λ f. f ≡ refusal 24) }
+    ensures { MatchResult result (λ v. Tallied (map R.Entry.Kind.number (R.Run.entries run.now)) v.items × (length v.items < 2 ^ 32)) (λ f. f ≡ refusal 24) }
 {
     let mut numbers = numbers_of(heap, run)?;
-    numbers.sort();
+    numbers.sort_unstable();
     grouped(heap, numbers.as_slice())
 }
 

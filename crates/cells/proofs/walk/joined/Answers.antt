@@ -5,8 +5,8 @@ use Rattle.cells.proofs.walk.joined.Goals as goal
 use Rattle.cells.specs.Cells.{cell}
 use Rattle.kinds.proofs.Grouped.{group_of}
 
-pub overflow-sub-place : goal.overflow-sub-place
-overflow-sub-place g c =
+pub overflow_sub-place : goal.overflow_sub-place
+overflow_sub-place g c =
     omega (arith, span_le c.loop-place.place (omega arith) (omega (arith, c.loop-place.invariant.0, c.ranges.count.fits)), c.span-place.ensures)
 
 pub loop-place-preserved : goal.loop-place-preserved
@@ -18,7 +18,7 @@ loop-place-preserved g c =
     let few : p < 2 ^ 32 = omega (arith, c.loop-place.invariant.0, c.ranges.count.fits) in (
       omega (arith, c.loop-place.invariant.0),
       ap (λ s. R.join (summed R cells (p - s)) c.join-sum.result) c.span-place.ensures
-          ∙ ap (R.join (summed R cells _)) (c.join-sum.ensures ∙ ap (λ x. R.join x c.loop-place.sum) c.cell-of.ensures)
+          ∙ ap (R.join (summed R cells _)) (c.join-sum.ensures ∙ ap (λ x. R.join x c.loop-place.sum) c.cell_of.ensures)
           ∙ sym (laws.associative _ (cell R cells p) c.loop-place.sum)
           ∙ ap (λ y. R.join y c.loop-place.sum) (summed_runs R laws cells p few p (omega arith) (omega arith))
           ∙ c.loop-place.invariant.1,

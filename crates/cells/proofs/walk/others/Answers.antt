@@ -4,11 +4,11 @@ use Rattle.cells.proofs.walk.others.Goals as goal
 use Rattle.cells.specs.Cells.{cell}
 use Rattle.kinds.proofs.Grouped.{group_of}
 
-pub overflow-sub-place : goal.overflow-sub-place
-overflow-sub-place g c = omega (arith, power_within c.args.place c.loop-t.t c.requires.first c.ranges.place.fits c.loop-t-test.true)
+pub overflow_sub-place : goal.overflow_sub-place
+overflow_sub-place g c = omega (arith, power_within c.args.place c.loop-t.t c.requires.first c.ranges.place.fits c.loop-t-test.true)
 
-pub cell-of-requires : goal.cell-of-requires
-cell-of-requires g c =
+pub cell_of-requires : goal.cell_of-requires
+cell_of-requires g c =
     let h = power_within c.args.place c.loop-t.t c.requires.first c.ranges.place.fits c.loop-t-test.true in
     record { first = omega arith; last = omega (arith, pow_pos c.loop-t.t) }
 
@@ -16,4 +16,4 @@ pub loop-t-preserved : goal.loop-t-preserved
 loop-t-preserved g c =
     c.join-sum.ensures
     ∙ besides_more g.K.Reckoned (group_of g.met.K.Reckoned) c.args.cells.now c.args.place c.loop-t.t _ _ c.loop-t.invariant
-    (c.cell-of.ensures ∙ ap (λ p. cell g.K.Reckoned c.args.cells.now (c.args.place - p)) c.power.ensures)
+    (c.cell_of.ensures ∙ ap (λ p. cell g.K.Reckoned c.args.cells.now (c.args.place - p)) c.power.ensures)

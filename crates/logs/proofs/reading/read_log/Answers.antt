@@ -4,29 +4,29 @@ use Rattle.logs.specs.Logs.{lines, text}
 use Rattle.std.proofs.lemmas.List.{append-nil, drop_all}
 use Rattle.std.proofs.Common.{◌≡◌, true, ◌++◌, map, is_ok, vec_items, sym, refl, ap, ◌∙◌, inl, inr, arith}
 
-pub returns-in-default : goal.returns-in-default
-returns-in-default c =
+pub returns-in_default : goal.returns-in_default
+returns-in_default c =
     let log = c.args.log.now in
     let ds = vec_items c.loop-start.drives in
-    let at = c.line-end-end.ensures in
-    let sofar = line_after log c.loop-start.start c.line-end-end.result c.loop-start-test.true at.within.0 at.within.1 at.before at.found ds c.loop-start.invariant.0 in
-    inl (refl, bad_line_lem (lines log) ds _ _ sofar _ (omega (arith, c.len.ensures, c.loop-start.drives.ok.0)) c.in-default.ensures)
+    let at = c.line_end-end.ensures in
+    let sofar = line_after log c.loop-start.start c.line_end-end.result c.loop-start-test.true at.within.0 at.within.1 at.before at.found ds c.loop-start.invariant.0 in
+    inl (refl, bad_line_lem (lines log) ds _ _ sofar _ (omega (arith, c.len.ensures, c.loop-start.drives.ok.0)) c.in_default.ensures)
 
-pub returns-then-is-err : goal.returns-then-is-err
-returns-then-is-err c =
+pub returns-then-is_err : goal.returns-then-is_err
+returns-then-is_err c =
     let log = c.args.log.now in
     let ds = vec_items c.loop-start.drives in
-    let at = c.line-end-end.ensures in
-    let sofar = line_after log c.loop-start.start c.line-end-end.result c.loop-start-test.true at.within.0 at.within.1 at.before at.found ds c.loop-start.invariant.0 in
+    let at = c.line_end-end.ensures in
+    let sofar = line_after log c.loop-start.start c.line_end-end.result c.loop-start-test.true at.within.0 at.within.1 at.before at.found ds c.loop-start.invariant.0 in
     inr (refl, lost_line (lines log) ds _ _ sofar _ (omega (arith, c.len.ensures, c.loop-start.drives.ok.0)) c.in-Some.drive c.in-Some.ensures)
 
 pub loop-start-preserved : goal.loop-start-preserved
 loop-start-preserved c =
     let log = c.args.log.now in
     let ds = vec_items c.loop-start.drives in
-    let at = c.line-end-end.ensures in
-    let sofar = line_after log c.loop-start.start c.line-end-end.result c.loop-start-test.true at.within.0 at.within.1 at.before at.found ds c.loop-start.invariant.0 in
-    let ok : is_ok c.push.result ≡ true = c.if-is-err.ensures.negation in
+    let at = c.line_end-end.ensures in
+    let sofar = line_after log c.loop-start.start c.line_end-end.result c.loop-start-test.true at.within.0 at.within.1 at.before at.found ds c.loop-start.invariant.0 in
+    let ok : is_ok c.push.result ≡ true = c.if-is_err.ensures.negation in
     let pushed = rw ok at c.push.ensures.items in
     (good_line (lines log) ds _ _ sofar c.in-Some.drive _ c.in-Some.ensures pushed, omega (arith, at.within.0, rw ok at c.push.ensures.len, c.loop-start.invariant.1))
 

@@ -8,16 +8,16 @@ use Rattle.std.specs.List.Sorted.{IsPermutation}
 
 pub grouped-requires : goal.grouped-requires
 grouped-requires g c =
-    let s = c.sort.new.self in
-    let ns = c.in-ok-numbers.numbers in
-    let whole : length (vec_items s) ≡ length (vec_items ns) = length_permutation _ _ c.sort.ensures.permutation in
-    let all = ap length c.in-ok-numbers.ensures ∙ length-map (g.R.Run.entries c.args.run.now) g.Entry.Kind.number in
+    let s = c.sort_unstable.new.self in
+    let ns = c.in_ok-numbers.numbers in
+    let whole : length (vec_items s) ≡ length (vec_items ns) = length_permutation _ _ c.sort_unstable.ensures.permutation in
+    let all = ap length c.in_ok-numbers.ensures ∙ length-map (g.R.Run.entries c.args.run.now) g.R.Entry.Kind.number in
     record {
-      rising = rw c.as-slice.ensures.value (IsNonDecreasingBy-from_sort (λ x. x) (vec_items s) _ (omega (arith, ns.ok.0)) c.sort.ensures.sorted);
-      few = rw c.as-slice.ensures.value (omega (arith, g.R.Run.few c.args.run.now));
+      rising = rw c.as_slice.ensures.value (IsNonDecreasingBy-from_sort (λ x. x) (vec_items s) c.sort_unstable.ensures.sorted);
+      few = rw c.as_slice.ensures.value (omega (arith, g.R.Run.few c.args.run.now));
     }
 
 pub returns : goal.returns
 returns g c =
-    let same = rw c.in-ok-numbers.ensures at c.sort.ensures.permutation in
-    MatchResult-weaker c.grouped.result c.grouped.ensures (λ v h. (tally_shuffled _ _ _ same (rw c.as-slice.ensures.value at h.0), h.1)) (λ f e. e)
+    let same = rw c.in_ok-numbers.ensures at c.sort_unstable.ensures.permutation in
+    MatchResult-weaker c.grouped.result c.grouped.ensures (λ v h. (tally_shuffled _ _ _ same (rw c.as_slice.ensures.value at h.0), h.1)) (λ f e. e)

@@ -12,7 +12,7 @@ note-requires c = grouped_room c.args.sorted.now c.loop-n.n-index _ c.loop-n.inv
 
 pub loop-n-preserved : goal.loop-n-preserved
 loop-n-preserved c =
-    grouped_more c.args.sorted.now c.loop-n.n-index _ c.requires.rising c.loop-n-test.true c.loop-n.invariant _ c.in-ok-note.ensures
+    grouped_more c.args.sorted.now c.loop-n.n-index _ c.requires.rising c.loop-n-test.true c.loop-n.invariant _ c.in_ok-note.ensures
 
 pub returns : goal.returns
 returns c =

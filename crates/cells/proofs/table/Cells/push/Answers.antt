@@ -8,7 +8,7 @@ pub returns : goal.returns
 returns g c =
     let R = g.K.Reckoned in
     let s = c.args.self.now in
-    let value : c.join-cell.result ≡ R.join (besides R (vec_items s.table) (s.count + 1)) c.args.entry = c.join-cell.ensures ∙ ap (λ x. R.join x c.args.entry) (c.others.ensures ∙ ap (λ l. besides R l (s.count + 1)) c.as-slice.ensures.value) in
+    let value : c.join-cell.result ≡ R.join (besides R (vec_items s.table) (s.count + 1)) c.args.entry = c.join-cell.ensures ∙ ap (λ x. R.join x c.args.entry) (c.others.ensures ∙ ap (λ l. besides R l (s.count + 1)) c.as_slice.ensures.value) in
     let past : (j : ℕ) → s.count + 1 < j → (j - 1 ≡ s.count → ⊥) → s.count < j = λ j h d. omega arith in
     let early : s.count + 1 ≤ s.count → c.join-cell.result ≡ R.zero = λ h. absurd (omega arith) in
     record {

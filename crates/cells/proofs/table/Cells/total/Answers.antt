@@ -17,5 +17,5 @@ returns g c =
     let s = c.args.self.now in
     let i = c.args.i in
     let within : i ≤ s.count = omega arith in
-    ap Ok (c.joined.ensures ∙ ap (λ l. total R (decoded R l i)) c.as-slice.ensures.value ∙ ap (total R) (sym (take-decoded R (vec_items s.table) s.count i within)))
+    ap Ok (c.joined.ensures ∙ ap (λ l. total R (decoded R l i)) c.as_slice.ensures.value ∙ ap (total R) (sym (take-decoded R (vec_items s.table) s.count i within)))
     ∙ sym (total_there R (written R s) i (omega (arith, length-decoded R (vec_items s.table) s.count)))
