@@ -68,7 +68,7 @@ fn show_log(rt: &HostRuntime, name: &str, drives: &[Steps]) -> anyhow::Result<()
     let end = position(&drives, count)?;
     rt.println(log_line(heap, name, count, end.value())?)?;
     let mut lines = tally_of(heap, drives)?;
-    lines.sort();
+    lines.sort_unstable();
     for line in lines.iter() {
         rt.println(tally_line(heap, line.drive, line.times)?)?;
     }

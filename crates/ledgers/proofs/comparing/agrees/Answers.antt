@@ -17,5 +17,5 @@ returns g c =
     let R = g.K.Reckoned in
     let a = c.args.a.now.sheet in
     let b = c.args.b.now.sheet in
-    let told : MatchBool c.same-cells.result (entries_of R a ≡ entries_of R b) (entries_of R a ≡ entries_of R b → ⊥) = compared R (group_of g.met.K.Reckoned) a b c.same-cells.result c.count-count.result c.count-count.ensures.counts (c.if-count.false ∙ c.count.ensures.counts) (simp (c.cells.ensures, c.cells-2.ensures) at c.same-cells.ensures) in
-    record { entries = told; histories = compared_histories R g.K.Kind a b c.same-cells.result told }
+    let told : MatchBool c.same_cells.result (entries_of R a ≡ entries_of R b) (entries_of R a ≡ entries_of R b → ⊥) = compared R (group_of g.met.K.Reckoned) a b c.same_cells.result c.count-count.result c.count-count.ensures.counts (c.if-count.false ∙ c.count.ensures.counts) (simp (c.cells.ensures, c.cells-2.ensures) at c.same_cells.ensures) in
+    record { entries = told; histories = compared_histories R g.K.Kind a b c.same_cells.result told }

@@ -7,10 +7,10 @@ use Rattle.sheets.specs.Sheets.{Follows, stands}
 use Rattle.sheets.specs.declared.answer.Answer.TheVariants.{Number}
 use Rattle.std.proofs.Common.{◌≡◌, true, None, sym, refl, ap, ◌∙◌, subst}
 
-pub returns-in-default : goal.returns-in-default
-returns-in-default g c =
+pub returns-in_default : goal.returns-in_default
+returns-in_default g c =
     let s = c.args.sheet.now in
-    let none : c.args.held.now ≡ None = sym c.take.ensures.value ∙ c.in-default.is in
+    let none : c.args.held.now ≡ None = sym c.take.ensures.value ∙ c.in_default.is in
     let turned = no_slip g.K.Kind g.K.Reckoned s c.args.held.now c.take.new.self (give_up s.unit) refl none c.take.ensures.after c.requires in
     record {
       fits = turned.0;
@@ -19,7 +19,7 @@ returns-in-default g c =
       answers = (refl, turned.2);
       ended = unparked s.unit s.parked (subst (λ h. fit h s.unit s.parked ≡ true) none c.requires);
       unaltered = refl;
-      follows-history = turned.3;
+      follows_history = turned.3;
     }
 
 pub returns-in-Ok : goal.returns-in-Ok
@@ -35,5 +35,5 @@ returns-in-Ok g c =
       answers = told.leaves.0;
       ended = told.leaves.1.parked;
       unaltered = told.leaves.2;
-      follows-history = subst (λ u. Follows g.K.Kind g.K.Reckoned (give_up u) s c.give_up.new.self (Number c.in-Ok.count)) same told.follows-history;
+      follows_history = subst (λ u. Follows g.K.Kind g.K.Reckoned (give_up u) s c.give_up.new.self (Number c.in-Ok.count)) same told.follows_history;
     }

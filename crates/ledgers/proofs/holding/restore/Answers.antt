@@ -6,17 +6,17 @@ use Rattle.sheets.specs.Sheets.{Follows, stands}
 use Rattle.sheets.specs.declared.answer.Answer.TheVariants.{Number}
 use Rattle.std.proofs.Common.{◌≡◌, None, sym, refl, ap, ◌∙◌, subst}
 
-pub returns-in-default : goal.returns-in-default
-returns-in-default g c =
+pub returns-in_default : goal.returns-in_default
+returns-in_default g c =
     let s = c.args.sheet.now in
-    let none : c.args.held.now ≡ None = sym c.take.ensures.value ∙ c.in-default.is in
+    let none : c.args.held.now ≡ None = sym c.take.ensures.value ∙ c.in_default.is in
     let turned = no_slip g.K.Kind g.K.Reckoned s c.args.held.now c.take.new.self (restore s.unit) refl none c.take.ensures.after c.requires in
     record {
       fits = turned.0;
       refuses = turned.1;
       stays = record { unit = refl; table = untouched g.K.Reckoned s.cells };
       answers = (refl, turned.2);
-      follows-history = turned.3;
+      follows_history = turned.3;
     }
 
 pub returns-in-Ok : goal.returns-in-Ok
@@ -30,5 +30,5 @@ returns-in-Ok g c =
       refuses = told.refuses ∙ ap (takes_slip (stands s)) same;
       stays = told.stays;
       answers = told.leaves.0;
-      follows-history = subst (λ u. Follows g.K.Kind g.K.Reckoned (restore u) s c.restore.new.self (Number c.in-Ok.count)) same told.follows-history;
+      follows_history = subst (λ u. Follows g.K.Kind g.K.Reckoned (restore u) s c.restore.new.self (Number c.in-Ok.count)) same told.follows_history;
     }

@@ -5,5 +5,5 @@ pub returns : goal.returns
 returns g c =
     record {
       answers = c.at.ensures;
-      follows-history = follows_at g.K.Kind g.K.Reckoned c.args.self.now c.args.place c.at.result c.at.ensures;
+      follows_history = follows_at g.K.Kind g.K.Reckoned c.args.self.now c.args.place c.at.result c.at.ensures;
     }

@@ -5,5 +5,5 @@ pub returns : goal.returns
 returns g c =
     record {
       counts = c.count.ensures;
-      follows-history = follows_count g.K.Kind g.K.Reckoned c.args.self.now c.count.result c.count.ensures;
+      follows_history = follows_count g.K.Kind g.K.Reckoned c.args.self.now c.count.result c.count.ensures;
     }

@@ -11,12 +11,12 @@ pub returns-then-free-wanted : goal.returns-then-free-wanted
 returns-then-free-wanted g c =
     let s = c.args.self.now in
     let no : refuses (stands s) (enter c.args.entry) ≡ Some (refusal 2) = too_little _ _ 2 _ _ c.wanted.ensures c.free.ensures c.if-free-wanted.true in
-    record { refuses = sym no; stays = record { unit = refl; table = untouched g.K.Reckoned s.cells }; leaves = refl; follows-history = follows_no g.K.Kind g.K.Reckoned (enter c.args.entry) s (refusal 2) no }
+    record { refuses = sym no; stays = record { unit = refl; table = untouched g.K.Reckoned s.cells }; leaves = refl; follows_history = follows_no g.K.Kind g.K.Reckoned (enter c.args.entry) s (refusal 2) no }
 
-pub invariant-of-self : goal.invariant-of-self
-invariant-of-self g c =
+pub invariant_of-self : goal.invariant_of-self
+invariant_of-self g c =
     let s = c.args.self.now in
-    (omega (arith, wanted_kept s.parked, c.wanted.ensures, c.free.ensures, c.add.ensures.counts, c.add.ensures.table.cells), tt)
+    record { room = omega (arith, wanted_kept s.parked, c.wanted.ensures, c.free.ensures, c.add.ensures.counts, c.add.ensures.table.cells) }
 
 pub returns : goal.returns
 returns g c =
@@ -29,5 +29,5 @@ returns g c =
       refuses = sym yes;
       stays = record { unit = refl; table = c.add.ensures.table };
       leaves = (c.add.ensures.answers, record { unit = refl; entries = c.add.ensures.adds; parked = refl; table = c.add.ensures.table });
-      follows-history = follows_out N R (enter e) s _ _ yes (λ h k. (entered N R (group_of g.met.K.Reckoned) h s _ k e (record { unit = refl; entries = c.add.ensures.adds; parked = refl; table = c.add.ensures.table }), next_count N R h s _ k c.add.ensures.answers));
+      follows_history = follows_out N R (enter e) s _ _ yes (λ h k. (entered N R (group_of g.met.K.Reckoned) h s _ k e (record { unit = refl; entries = c.add.ensures.adds; parked = refl; table = c.add.ensures.table }), next_count N R h s _ k c.add.ensures.answers));
     }

@@ -5,15 +5,15 @@ use Rattle.sheets.proofs.sheet.Sheet.give_up.Goals as goal
 use Rattle.sheets.specs.History.{give_up}
 use Rattle.std.proofs.Common.{Some, sym, refl, ap, ◌∙◌}
 
-pub returns-in-default : goal.returns-in-default
-returns-in-default g c =
-    let no = c.in-default.ensures in
-    let back = c.hand-back.ensures in
+pub returns-in_default : goal.returns-in_default
+returns-in_default g c =
+    let no = c.in_default.ensures in
+    let back = c.hand_back.ensures in
     record {
       refuses = ap Some back.1 ∙ sym no;
       stays = record { unit = refl; table = untouched g.K.Reckoned c.args.self.now.cells };
       leaves = (back.0, refl);
-      follows-history = follows_back g.K.Kind g.K.Reckoned (give_up c.args.slip.unit) c.args.self.now c.hand-back.result.refusal 5 back.1 no;
+      follows_history = follows_back g.K.Kind g.K.Reckoned (give_up c.args.slip.unit) c.args.self.now c.hand_back.result.refusal 5 back.1 no;
     }
 
 pub returns : goal.returns
@@ -27,5 +27,5 @@ returns g c =
       refuses = sym fits;
       stays = record { unit = refl; table = untouched R s.cells };
       leaves = (c.count.ensures, record { unit = refl; entries = refl; parked = refl; table = untouched R s.cells }, refl);
-      follows-history = follows_out N R (give_up u) s _ _ fits (λ h k. (given_up N R (group_of g.met.K.Reckoned) h s _ k u (record { unit = refl; entries = refl; parked = refl; table = untouched R s.cells }), this_count N R h s _ k c.count.ensures));
+      follows_history = follows_out N R (give_up u) s _ _ fits (λ h k. (given_up N R (group_of g.met.K.Reckoned) h s _ k u (record { unit = refl; entries = refl; parked = refl; table = untouched R s.cells }), this_count N R h s _ k c.count.ensures));
     }

@@ -9,7 +9,7 @@ pub returns : goal.returns
 returns g c =
     let R = g.K.Reckoned in
     record {
-      begins-history = keeps g.K.Kind R (group_of g.met.K.Reckoned) (begun R c.args.unit (own (vec_len c.args.table))) _ refl (ap own c.over.ensures.long) (none_written R _ _ c.over.ensures.empty) c.over.ensures.cleared refl refl;
+      begins_history = keeps g.K.Kind R (group_of g.met.K.Reckoned) (begun R c.args.unit (own (vec_len c.args.table))) _ refl (ap own c.over.ensures.long) (none_written R _ _ c.over.ensures.empty) c.over.ensures.cleared refl refl;
       long = c.over.ensures.long;
       beyond = c.over.ensures.beyond;
     }

@@ -9,24 +9,24 @@ use Rattle.sheets.specs.Sheets.{entries_of}
 use Rattle.sheets.specs.declared.answer.Answer.TheVariants.{Slip}
 use Rattle.std.proofs.Common.{◌≡◌, [], ◌∷◌, ◌++◌, Some, sym, refl, ap, ◌∙◌}
 
-pub returns-then-is-some : goal.returns-then-is-some
-returns-then-is-some g c =
+pub returns-then-is_some : goal.returns-then-is_some
+returns-then-is_some g c =
     let s = c.args.self.now in
-    let no = parked_already s c.if-is-some.ensures in
-    record { refuses = sym no; stays = record { unit = refl; table = untouched g.K.Reckoned s.cells }; leaves = refl; follows-history = follows_no g.K.Kind g.K.Reckoned park s (refusal 4) no }
+    let no = parked_already s c.if-is_some.ensures in
+    record { refuses = sym no; stays = record { unit = refl; table = untouched g.K.Reckoned s.cells }; leaves = refl; follows_history = follows_no g.K.Kind g.K.Reckoned park s (refusal 4) no }
 
 pub returns-then-free-lt2 : goal.returns-then-free-lt2
 returns-then-free-lt2 g c =
     let s = c.args.self.now in
-    let no = parked_full s _ c.if-is-some.ensures c.free.ensures c.if-free-lt2.true in
-    record { refuses = sym no; stays = record { unit = refl; table = untouched g.K.Reckoned s.cells }; leaves = refl; follows-history = follows_no g.K.Kind g.K.Reckoned park s (refusal 2) no }
+    let no = parked_full s _ c.if-is_some.ensures c.free.ensures c.if-free-lt2.true in
+    record { refuses = sym no; stays = record { unit = refl; table = untouched g.K.Reckoned s.cells }; leaves = refl; follows_history = follows_no g.K.Kind g.K.Reckoned park s (refusal 2) no }
 
 pub returns : goal.returns
 returns g c =
     let s = c.args.self.now in
     let N = g.K.Kind in
     let R = g.K.Reckoned in
-    let fits = parked_fits s _ c.if-is-some.ensures c.free.ensures c.if-free-lt2.false in
+    let fits = parked_fits s _ c.if-is_some.ensures c.free.ensures c.if-free-lt2.false in
     let all : c.sum-amount.result ≡ total R (entries_of R s) = c.sum-amount.ensures in
     let added = c.add.ensures.adds ∙ ap (λ x. entries_of R s ++ (x ∷ [])) (c.inverse.ensures ∙ ap R.inverse all) in
     let kept = ap Some (c.number.ensures ∙ ap N.number all) in
@@ -34,5 +34,5 @@ returns g c =
       refuses = sym fits;
       stays = record { unit = refl; table = c.add.ensures.table };
       leaves = (c.issue.ensures.0, c.issue.ensures.1, record { unit = refl; entries = added; parked = kept; table = c.add.ensures.table });
-      follows-history = follows_out N R park s _ _ fits (λ h k. (parked N R (group_of g.met.K.Reckoned) h s _ k (record { unit = refl; entries = added; parked = kept; table = c.add.ensures.table }), ap Slip (c.issue.ensures.0 ∙ k.unit)));
+      follows_history = follows_out N R park s _ _ fits (λ h k. (parked N R (group_of g.met.K.Reckoned) h s _ k (record { unit = refl; entries = added; parked = kept; table = c.add.ensures.table }), ap Slip (c.issue.ensures.0 ∙ k.unit)));
     }

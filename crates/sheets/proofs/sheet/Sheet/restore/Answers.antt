@@ -6,15 +6,15 @@ use Rattle.sheets.specs.History.{restore}
 use Rattle.sheets.specs.Sheets.{entries_of}
 use Rattle.std.proofs.Common.{◌≡◌, [], ◌∷◌, ◌++◌, Some, sym, refl, ap, ◌∙◌}
 
-pub returns-in-default : goal.returns-in-default
-returns-in-default g c =
-    let no = c.in-default.ensures in
-    let back = c.hand-back.ensures in
+pub returns-in_default : goal.returns-in_default
+returns-in_default g c =
+    let no = c.in_default.ensures in
+    let back = c.hand_back.ensures in
     record {
       refuses = ap Some back.1 ∙ sym no;
       stays = record { unit = refl; table = untouched g.K.Reckoned c.args.self.now.cells };
       leaves = (back.0, refl);
-      follows-history = follows_back g.K.Kind g.K.Reckoned (restore c.args.slip.unit) c.args.self.now c.hand-back.result.refusal 5 back.1 no;
+      follows_history = follows_back g.K.Kind g.K.Reckoned (restore c.args.slip.unit) c.args.self.now c.hand_back.result.refusal 5 back.1 no;
     }
 
 pub returns : goal.returns
@@ -26,11 +26,11 @@ returns g c =
     let n = c.in-Some.number in
     let kept : s.parked ≡ Some n = c.in-Some.ensures.0 in
     let fits = c.in-Some.ensures.1 in
-    let amount : (t : g.row.K.Denot) → s.parked ≡ Some (N.number t) → c.amount-of.result ≡ t = λ t is. let same : N.number t ≡ n = cc in c.amount-of.ensures t same in
+    let amount : (t : g.row.K.Denot) → s.parked ≡ Some (N.number t) → c.amount_of.result ≡ t = λ t is. let same : N.number t ≡ n = cc in c.amount_of.ensures t same in
     let added = c.add.ensures.adds in
     record {
       refuses = sym fits;
       stays = record { unit = refl; table = c.add.ensures.table };
-      leaves = (c.add.ensures.answers, (c.amount-of.result, amount, record { unit = refl; entries = added; parked = refl; table = c.add.ensures.table }));
-      follows-history = follows_out N R (restore u) s _ _ fits (λ h k. (restored N R (group_of g.met.K.Reckoned) h s _ k u c.amount-of.result (amount_so N R h.parked n c.amount-of.result (sym k.parked ∙ kept) c.amount-of.ensures) (record { unit = refl; entries = added; parked = refl; table = c.add.ensures.table }), next_count N R h s _ k c.add.ensures.answers));
+      leaves = (c.add.ensures.answers, (c.amount_of.result, amount, record { unit = refl; entries = added; parked = refl; table = c.add.ensures.table }));
+      follows_history = follows_out N R (restore u) s _ _ fits (λ h k. (restored N R (group_of g.met.K.Reckoned) h s _ k u c.amount_of.result (amount_so N R h.parked n c.amount_of.result (sym k.parked ∙ kept) c.amount_of.ensures) (record { unit = refl; entries = added; parked = refl; table = c.add.ensures.table }), next_count N R h s _ k c.add.ensures.answers));
     }

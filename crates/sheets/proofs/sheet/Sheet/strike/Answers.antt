@@ -4,10 +4,10 @@ use Rattle.sheets.proofs.sheet.Sheet.strike.Goals as goal
 use Rattle.std.proofs.lemmas.Bool.{cases_lt}
 use Rattle.std.proofs.Common.{refl, ap, arith}
 
-pub invariant-of-self : goal.invariant-of-self
-invariant-of-self g c =
+pub invariant_of-self : goal.invariant_of-self
+invariant_of-self g c =
     let s = c.args.self.now in
-    (omega (arith, s.room, c.pop.ensures.counts, c.pop.ensures.table.cells), tt)
+    record { room = omega (arith, s.room, c.pop.ensures.counts, c.pop.ensures.table.cells) }
 
 pub returns : goal.returns
 returns g c =
@@ -22,5 +22,5 @@ returns g c =
       refuses = strikes_refuses N R s c.pop.result (λ h. (done h).0) (λ h. (undone h).0) some;
       stays = record { unit = refl; table = c.pop.ensures.table };
       leaves = strikes_leaves N R s _ refl refl c.pop.ensures.table laws c.pop.result done undone some;
-      follows-history = strikes N R s _ refl refl c.pop.ensures.table laws c.pop.result done undone some;
+      follows_history = strikes N R s _ refl refl c.pop.ensures.table laws c.pop.result done undone some;
     }

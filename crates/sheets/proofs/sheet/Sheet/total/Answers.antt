@@ -5,5 +5,5 @@ pub returns : goal.returns
 returns g c =
     record {
       answers = c.total.ensures;
-      follows-history = follows_total g.K.Kind g.K.Reckoned c.args.self.now c.args.i c.total.result c.total.ensures;
+      follows_history = follows_total g.K.Kind g.K.Reckoned c.args.self.now c.args.i c.total.result c.total.ensures;
     }
