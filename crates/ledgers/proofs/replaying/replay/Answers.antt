@@ -7,8 +7,8 @@ use Rattle.std.proofs.lemmas.List.{map_more, take_all}
 
 pub loop-call-init : goal.loop-call-init
 loop-call-init g c =
-    let made = c.in-Ok.ensures.made in
-    (followed_none g.K.Reckoned g.K.Kind c.args.unit c.make-ledger.result.sheet _ c.make-ledger.ensures.unit made.0, omega (arith, made), omega (arith, made))
+    let made = c.in-Ok.ensures in
+    (followed_none g.K.Reckoned g.K.Kind c.args.unit c.make-ledger.result.sheet _ c.make-ledger.ensures.unit made.items, omega (arith, made.len), omega (arith, made.capacity))
 
 pub loop-call-preserved : goal.loop-call-preserved
 loop-call-preserved g c =

@@ -9,12 +9,12 @@ loop-line-preserved c =
     let i = c.loop-line.line-index in
     let x = c.line-item.result in
     let within : i < length lines = omega arith in (
-      c.push-reserved.ensures.items
+      c.push_reserved.ensures.items
           ∙ ap (λ l. l ++ (c.call_of.result ∷ [])) c.loop-line.invariant.0
           ∙ ap (λ y. map call_of (take i lines) ++ (y ∷ [])) (c.call_of.ensures ∙ ap call_of c.line-item.is)
           ∙ sym (map_more call_of lines i x within),
-      omega (arith, c.push-reserved.ensures.len),
-      omega (arith, c.push-reserved.ensures.capacity),
+      omega (arith, c.push_reserved.ensures.len),
+      omega (arith, c.push_reserved.ensures.capacity),
     )
 
 pub returns : goal.returns

@@ -6,10 +6,10 @@ use Rattle.std.proofs.Common.{[], ◌∷◌, ◌++◌, replicate, ap, ◌∙◌,
 pub loop-preserved : goal.loop-preserved
 loop-preserved c =
     let n = c.loop.counter in (
-      c.push-reserved.ensures.items
+      c.push_reserved.ensures.items
           ∙ ap (λ l. l ++ (c.zero.result ∷ [])) c.loop.invariant.0
           ∙ ap (λ z. replicate n none ++ (z ∷ [])) c.zero.ensures
           ∙ replicate_more n none,
-      omega (arith, c.push-reserved.ensures.len),
-      omega (arith, c.push-reserved.ensures.capacity),
+      omega (arith, c.push_reserved.ensures.len),
+      omega (arith, c.push_reserved.ensures.capacity),
     )
