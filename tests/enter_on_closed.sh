@@ -5,40 +5,42 @@
 # compile, so that nothing else is what was refused. Nothing is proved here.
 set -eu
 root=$(cd "$(dirname "$0")/.." && pwd)
-kit=$(dirname "$(dirname "$(rt doc)")")
 work=$(mktemp -d)
 trap 'rm -rf "$work"' EXIT
 
-libraries=""
-while IFS=: read -r name used; do
-    libraries="$libraries --lib $name:$(echo $used | tr ' ' ,)=$kit/$name/src/lib.rt"
-done <"$kit/libs.txt"
+{
+    grep -E '^(kinds|runs|cells|sheets):' "$root/crates.txt"
+    echo "enters: kinds runs cells sheets"
+} >"$work/crates.txt"
+mkdir -p "$work/crates/enters/src"
 for name in kinds runs cells sheets; do
-    libraries="$libraries --lib $name=$root/crates/$name/src/lib.rt"
+    mkdir "$work/crates/$name"
+    for part in src specs proofs; do
+        if [ -d "$root/crates/$name/$part" ]; then
+            cp -R "$root/crates/$name/$part" "$work/crates/$name/"
+        fi
+    done
 done
 
 # compile END: a program that enters on a sheet made and then ended by END
 compile() {
-    cat >"$work/main.rt" <<PROGRAM
+    cat >"$work/crates/enters/src/main.rt" <<PROGRAM
 //! Enters on a sheet.
-use kinds::Counts;
-use kinds::CountsKind;
-use kinds::CountsReckoned;
-use sheets::Sheet;
-use std::error::AnyError;
+#![tactic(auto)]
 
-fn main(rt: LibcRuntime) -> Result<(), AnyError> {
+use kinds::Counts;
+use sheets::Sheet;
+
+fn main(rt: HostRuntime) {
     let mut sheet = Sheet::make(1, Vec::new(rt.alloc()))$1;
     let _ = sheet.enter(Counts::new(1));
-    Ok(())
 }
 PROGRAM
-    # shellcheck disable=SC2086
-    "$kit/bin/rattle-print-mir" "$work/main.rt" --crate-name enters $libraries >"$work/mir" 2>"$work/errors"
+    (cd "$work/crates/enters" && rt try) >"$work/said" 2>&1
 }
 
 if ! compile ""; then
-    cat "$work/errors"
+    cat "$work/said"
     echo "enter_on_closed: entering on an open sheet should compile" >&2
     exit 1
 fi
@@ -46,8 +48,8 @@ if compile ".close()"; then
     echo "enter_on_closed: entering on a closed sheet compiled" >&2
     exit 1
 fi
-if ! grep -q 'error\[unknown-method\]: no method named `enter` found for type `ClosedSheet' "$work/errors"; then
-    cat "$work/errors"
+if ! grep -q 'error\[unknown-method\]: no method named `enter` found for type `ClosedSheet' "$work/said"; then
+    cat "$work/said"
     echo "enter_on_closed: refused for another reason" >&2
     exit 1
 fi

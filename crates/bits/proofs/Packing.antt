@@ -1,11 +1,11 @@
 -- Digits of the large number that a part is. Assumes nothing.
-use Rattle.std.proofs.Common.{◌≡◌, ℕ, zero, suc, ◌+◌, ◌-◌, ◌*◌, ◌/◌, ◌%◌, ◌^◌, ◌<◌, ◌≤◌, List, [], ◌∷◌, get_or, sym, refl, ap, ◌∙◌, mod-lt, mul_assoc, mul_comm, mul-suc, mul-add, div-one, arith, pow_pos, shr-shr}
-use Rattle.bits.specs.Packed.{bits_of, digit, number_of, packed}
+use Rattle.std.proofs.Common.{◌≡◌, ℕ, zero, suc, ◌+◌, ◌-◌, ◌*◌, ◌/◌, ◌%◌, ◌^◌, ◌<◌, ◌≤◌, List, [], ◌∷◌, get_or, sym, ap, ◌∙◌, div-one, arith, shr-shr}
+use Rattle.bits.specs.Packed.{bits_of, digit, number_of}
 use Rattle.bits.specs.declared.width.Width.{Width}
 use Rattle.bits.specs.declared.width.Width.TheVariants.{One, Two, Four, Eight, Sixteen}
 use lib.Bits.{bit_and, and_mask}
 use lib.Pow.{field, high, low, mod-mod-pow}
-use native.Mathlib.Nat.{zero-div, zero-mod, div-add-mod}
+use native.Mathlib.Nat.{zero-div, zero-mod}
 
 -- word i of a part
 pub word_of : (ws : List ℕ) → ((i : ℕ) → get_or ws i 0 < 2 ^ 32) → (i : ℕ) → number_of ws / 2 ^ (32 * i) % 2 ^ 32 ≡ get_or ws i 0

@@ -1,5 +1,5 @@
 -- One chunk of a word, and of a part, replaced. Assumes nothing.
-use Rattle.std.proofs.Common.{◌≡◌, ℕ, zero, suc, ◌+◌, ◌-◌, ◌*◌, ◌/◌, ◌%◌, ◌^◌, ◌<◌, ◌≤◌, List, [], ◌∷◌, length, get_or, set, sym, refl, ap, ◌∙◌, subst, mul-le-mul_right, mod-lt, mul_assoc, mul_comm, add-mul, div-add-mod', arith, pow_pos, pow-add, shl_exact, shr_lt}
+use Rattle.std.proofs.Common.{◌≡◌, ℕ, zero, suc, ◌+◌, ◌-◌, ◌*◌, ◌/◌, ◌%◌, ◌^◌, ◌<◌, ◌≤◌, List, [], ◌∷◌, length, get_or, set, sym, ap, ◌∙◌, subst, mul-le-mul_right, mod-lt, mul_assoc, mul_comm, add-mul, div-add-mod', arith, pow_pos, pow-add, shl_exact, shr_lt}
 use Rattle.bits.proofs.Packing.{chunk_digit, each_is, each_of, spot}
 use Rattle.bits.specs.Packed.{Put, bits_of, digit, number_of}
 use Rattle.bits.specs.declared.width.Width.{Width}

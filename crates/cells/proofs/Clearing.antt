@@ -1,7 +1,7 @@
 -- Setting the first cells of a table to zero. Assumes nothing.
-use Rattle.std.proofs.Common.{◌≡◌, ℕ, ◌+◌, ◌-◌, ◌<◌, ◌≤◌, min, List, [], ◌∷◌, ◌++◌, length, get_or, drop, set, replicate, sym, refl, ap, ◌∙◌, arith}
-use Rattle.cells.specs.Cells.{cell, own, limit}
-use Rattle.std.proofs.lemmas.List.{set-append_right, drop_more, replicate_more, append_assoc, length-replicate, get_or_append_left, get_or-replicate, drop_at, drop_all, append-nil, drop-drop, length-append, length-drop}
+use Rattle.std.proofs.Common.{◌≡◌, ℕ, ◌+◌, ◌-◌, ◌<◌, ◌≤◌, List, [], ◌∷◌, ◌++◌, length, get_or, drop, set, replicate, sym, ap, ◌∙◌, arith}
+use Rattle.cells.specs.Cells.{own, limit}
+use Rattle.std.proofs.lemmas.List.{set-append_right, drop_more, replicate_more, append_assoc, length-replicate, get_or_append_left, get_or-replicate, length-append, length-drop}
 use Rattle.std.proofs.lemmas.Slice.{drop-append-drop}
 
 module _ {K : Type 0} (z : K) (xs : List K) where

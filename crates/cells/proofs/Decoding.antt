@@ -3,12 +3,12 @@ use Rattle.std.proofs.Common.{◌≡◌, ℕ, zero, suc, ◌+◌, ◌-◌, ◌^�
 use Rattle.cells.proofs.Reach.{span_pos, span_le, twos_before, largest_span}
 use Rattle.cells.specs.Cells.{cell, besides, decoded}
 use Rattle.cells.specs.Spans.{LargestPower, twos, span}
-use Rattle.kinds.proofs.Joins.{total-append, total-push, total_next, cancel_left, made_good, part_is}
+use Rattle.kinds.proofs.Joins.{total-append, total-push, total_next, cancel_left, made_good}
 use Rattle.kinds.specs.Totals.{total, Group}
 use Rattle.kinds.specs.declared.laws.Reckoned.{Ghosts}
 use Rattle.runs.specs.Places.{part}
 use Rattle.std.proofs.lemmas.List.FromFn.{map-range_with_len_more, length-map-range_with_len, take-map-range_with_len, get_or-map-range_with_len}
-use Rattle.std.proofs.lemmas.List.{same_lists, get_or_default, take-append-drop, drop-take, take-take, take_all}
+use Rattle.std.proofs.lemmas.List.{same_lists, get_or_default, take-append-drop, drop-take, take-take}
 use Rattle.std.proofs.lemmas.Bool.{cases_lt}
 use Rattle.std.specs.List.{range_with_len}
 use lib.Pow.{pow-lt}

@@ -1,6 +1,6 @@
 -- What altering cells does to the entries that they stand for. Assumes nothing.
-use Rattle.std.proofs.Common.{◌≡◌, ℕ, zero, suc, ◌+◌, ◌-◌, ◌^◌, ◌<◌, ◌≤◌, ◌⊎◌, List, [], ◌∷◌, ◌++◌, map, length, get_or, take, drop, set, sym, refl, ap, ◌∙◌, inl, inr, arith, pow_pos}
-use Rattle.cells.proofs.Decoding.{Runs, summed, summed_runs, decoded_is, length-decoded, take-decoded, decoded_more, power_within}
+use Rattle.std.proofs.Common.{◌≡◌, ℕ, ◌+◌, ◌-◌, ◌^◌, ◌<◌, ◌≤◌, ◌⊎◌, List, [], ◌∷◌, ◌++◌, map, length, get_or, take, drop, set, sym, refl, ap, ◌∙◌, inl, inr, arith, pow_pos}
+use Rattle.cells.proofs.Decoding.{summed, summed_runs, decoded_is, length-decoded, take-decoded, decoded_more, power_within}
 use Rattle.cells.proofs.Reach.{span_pos, span_le, span_next, span_between}
 use Rattle.cells.specs.Cells.{cell, besides, decoded, Raised}
 use Rattle.cells.specs.Spans.{twos, span}

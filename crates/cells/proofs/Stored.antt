@@ -1,10 +1,8 @@
 -- What one write to the table does to a tree. Assumes nothing.
-use Rattle.std.proofs.Common.{◌≡◌, ℕ, ◌+◌, ◌-◌, ◌^◌, ◌<◌, ◌≤◌, min, ◌⊎◌, List, [], ◌∷◌, ◌++◌, length, get_or, take, drop, set, Ok, vec_items, vec_len, sym, refl, ap, ◌∙◌, inl, inr, arith}
+use Rattle.std.proofs.Common.{◌≡◌, ℕ, ◌+◌, ◌-◌, ◌<◌, ◌≤◌, ◌⊎◌, List, [], ◌∷◌, ◌++◌, get_or, take, drop, set, Ok, vec_items, vec_len, sym, ap, ◌∙◌, inl, inr, arith}
 use Rattle.cells.proofs.Decoding.{length-decoded, take-decoded}
 use Rattle.cells.proofs.Raising.{decoded_same, decoded_push, decoded_raised}
-use Rattle.cells.proofs.Reach.{span_pos}
 use Rattle.cells.specs.Cells.{cell, besides, decoded, written, own, limit, Raised, SameTable}
-use Rattle.cells.specs.Spans.{span}
 use Rattle.cells.specs.declared.table.Cells.{Cells}
 use Rattle.kinds.specs.Totals.{Group}
 use Rattle.kinds.specs.declared.laws.Reckoned.{Ghosts}

@@ -1,5 +1,5 @@
 -- What the cells of a binary Fenwick tree hold, and which entries they stand for. Assumes nothing.
-use Rattle.std.specs.Prelude.{◌≡◌, ℕ, ◌+◌, ◌-◌, ◌^◌, ◌<◌, ◌≤◌, min, List, map, length, drop, vec_items, vec_len, slice_index_or}
+use Rattle.std.specs.Prelude.{◌≡◌, ℕ, ◌-◌, ◌^◌, ◌<◌, ◌≤◌, min, List, map, length, drop, vec_items, vec_len, slice_index_or}
 use Rattle.cells.specs.Spans.{LargestPower, twos, span}
 use Rattle.cells.specs.declared.table.Cells.{Cells}
 use Rattle.kinds.specs.Totals.{total}

@@ -1,5 +1,5 @@
 -- Entries of equal value are equal, and what joining them comes to. Assumes nothing.
-use Rattle.std.specs.Prelude.{◌≡◌, ℕ, ◌+◌, ◌-◌, ◌%◌, ◌^◌, ◌<◌, ◌≤◌, ℤ, pos, negsuc, ◌+ℤ◌, neg_ℤ, refl}
+use Rattle.std.specs.Prelude.{◌≡◌, ◌^◌, ◌<◌, ◌≤◌, ℤ, pos, negsuc, ◌+ℤ◌, neg_ℤ}
 use Rattle.kinds.specs.declared.counts.Counts.{Counts}
 use Rattle.kinds.specs.declared.faults.Faults.{Faults}
 use Rattle.kinds.specs.declared.flags.Flags.{Flags}

@@ -1,5 +1,5 @@
 -- How flags join: by exclusive or. Assumes nothing.
-use Rattle.std.specs.Prelude.{ℕ, bit_xor}
+use Rattle.std.specs.Prelude.{bit_xor}
 use Rattle.kinds.specs.declared.flags.Flags.{Flags}
 use Rattle.kinds.specs.declared.laws.Reckoned.{Ghosts}
 use Rattle.std.proofs.Common.{lit<}

@@ -1,6 +1,6 @@
 -- What the entries of a reckoned kind come to. Assumes nothing.
 use Rattle.kinds.specs.declared.laws.Reckoned.{Ghosts}
-use Rattle.std.specs.Prelude.{◌≡◌, ℕ, List, [], ◌∷◌, take}
+use Rattle.std.specs.Prelude.{◌≡◌, List, [], ◌∷◌}
 
 -- all the entries joined, zero if there are none
 abbrev pub total : {K : Type 0} → Ghosts K → List K → K

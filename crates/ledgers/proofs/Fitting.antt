@@ -1,5 +1,5 @@
 -- What goes with a slip that is held, and with none. Assumes nothing.
-use Rattle.std.proofs.Common.{◌≡◌, ℕ, true, false, Some, None, Option, sym, refl, ap, ◌∙◌, subst}
+use Rattle.std.proofs.Common.{◌≡◌, ℕ, true, Some, None, Option, sym, refl, ◌∙◌, subst}
 use Rattle.kinds.specs.Refusals.{refusal}
 use Rattle.kinds.specs.declared.laws.Kind as Kind
 use Rattle.kinds.specs.declared.laws.Reckoned as Reckoned

@@ -1,6 +1,6 @@
 -- The law of sheets: lists of calls, and cells that equal entries decide. Assumes nothing.
-use Rattle.std.proofs.Common.{◌≡◌, ℕ, ◌+◌, ◌-◌, ◌^◌, ◌<◌, ◌≤◌, min, Bool, true, false, ◌⊎◌, List, [], ◌∷◌, ◌++◌, map, length, get_or, take, drop, Some, None, vec_items, vec_len, MatchBool, Option, sym, refl, ap, ◌∙◌, subst, inl, inr, arith}
-use Rattle.cells.proofs.Decoding.{decoded_at, decoded_more, length-decoded, cell_right}
+use Rattle.std.proofs.Common.{◌≡◌, ℕ, ◌+◌, ◌-◌, ◌<◌, ◌≤◌, Bool, true, false, ◌⊎◌, List, [], ◌∷◌, ◌++◌, map, length, get_or, drop, Some, None, vec_items, MatchBool, Option, sym, refl, ap, ◌∙◌, subst, inl, inr, arith}
+use Rattle.cells.proofs.Decoding.{length-decoded, cell_right}
 use Rattle.cells.proofs.Raising.{decoded_same}
 use Rattle.cells.proofs.Reach.{span_largest}
 use Rattle.cells.specs.Cells.{cell, decoded, limit, own}
@@ -12,7 +12,6 @@ use Rattle.kinds.specs.declared.refusal.Refusal.{Refusal}
 use Rattle.ledgers.specs.Law.{Law, by_slip, closed_history, history, own_cells}
 use Rattle.ledgers.specs.declared.call.Call as asked
 use Rattle.runs.specs.Places.{part}
-use Rattle.sheets.proofs.Keeping.{count_of}
 use Rattle.sheets.specs.History.{Call, History, after, after_all, answer, answers, begun, carried, refuses, standing, unless, enter, correct, shift, strike, park, restore, give_up, at, total_of, count}
 use Rattle.sheets.specs.Sheets.{Follows, Keeps, SameBook, cells_of, entries_of}
 use Rattle.sheets.specs.declared.answer.Answer.{Answer}

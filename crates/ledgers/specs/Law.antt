@@ -1,5 +1,5 @@
 -- The law of sheets: whatever is done to a sheet, its total and its cells are what its history says. Assumes nothing.
-use Rattle.std.specs.Prelude.{◌≡◌, ℕ, ◌≤◌, List, map, length, take, drop, vec_items, vec_len}
+use Rattle.std.specs.Prelude.{◌≡◌, ℕ, List, map, length, take, drop, vec_items}
 use Rattle.cells.specs.Cells.{limit, own}
 use Rattle.kinds.specs.Totals.{total}
 use Rattle.kinds.specs.declared.laws.Kind as Kind

@@ -3,8 +3,8 @@ use Rattle.std.proofs.Common.{◌≡◌, ℕ, zero, suc, ◌+◌, ◌-◌, ◌^�
 use Rattle.kinds.specs.declared.refusal.Refusal.{Refusal}
 use Rattle.kinds.specs.declared.refusal.Refusal.TheVariants.{NoPlace}
 use Rattle.runs.specs.Places.{entry_at, cut, part}
-use Rattle.std.proofs.lemmas.List.{get_or-take, get_or-drop, get_or_default, map_more, take_all, length-take, length-drop}
-use Rattle.std.proofs.lemmas.Option.{slice_get_read, slice_get-get_or, slice_get_past}
+use Rattle.std.proofs.lemmas.List.{get_or-take, get_or_default, map_more, take_all, length-take}
+use Rattle.std.proofs.lemmas.Option.{slice_get_read, slice_get_past}
 use Rattle.std.proofs.lemmas.Bool.{cases_lt}
 use Rattle.std.specs.List.{slice_get}
 use Rattle.std.specs.Option.{ok_or}

@@ -1,5 +1,5 @@
 -- Two walks side by side. Assumes nothing.
-use Rattle.std.proofs.Common.{◌≡◌, ℕ, ◌+◌, ◌<◌, List, length, Ok, sym, refl, ap, ◌∙◌, arith, below_more}
+use Rattle.std.proofs.Common.{◌≡◌, ℕ, ◌+◌, ◌<◌, List, length, Ok, sym, ap, ◌∙◌, arith, below_more}
 use Rattle.kinds.specs.Entries.{same_steps, steps_group, zigzag_distinct}
 use Rattle.kinds.specs.Steps.{reckoned, both, zigzag}
 use Rattle.kinds.specs.declared.steps.Steps.{Steps}

@@ -1,5 +1,5 @@
 -- Reading a run at a place, and its totals on the way. Assumes nothing.
-use Rattle.std.specs.Prelude.{ℕ, zero, suc, cond, List, [], ◌∷◌, map, length, take, drop, Ok, Err, Result, nat_le}
+use Rattle.std.specs.Prelude.{ℕ, zero, suc, cond, List, map, length, take, drop, Ok, Err, Result, nat_le}
 use Rattle.kinds.specs.Refusals.{refusal}
 use Rattle.kinds.specs.Totals.{total}
 use Rattle.kinds.specs.declared.refusal.Refusal.{Refusal}

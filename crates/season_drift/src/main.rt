@@ -4,10 +4,10 @@
 use anyhow::anyhow;
 use kinds::{Kind, Steps};
 use ledgers::{Replayed, agrees};
+use runs::{Run, first_parting};
 use season_logs::{
     LogLine, agreement_line, bad_line, book_line, parting_line, read_log, tally_line, totals_line,
 };
-use runs::{Run, first_parting};
 use seasons::{replay_log, steps_apart};
 use sheets::{Answer, ClosedSheet};
 use std::alloc::Global;
@@ -114,7 +114,7 @@ fn show_book(rt: &HostRuntime, name: &str, season: &Replayed<Steps>) -> anyhow::
     }
     rt.println(book_line(heap, name, season.book.count(), season.total.value())?)?;
     let mut lines = tally_of(heap, &season.book)?;
-    lines.sort();
+    lines.sort_unstable();
     for line in lines.iter() {
         rt.println(tally_line(heap, line.entry, line.times)?)?;
     }

@@ -1,5 +1,5 @@
 -- A log cut into lines, one after another. Assumes nothing.
-use Rattle.std.proofs.Common.{◌≡◌, ℕ, zero, suc, ◌+◌, ◌-◌, ◌<◌, ◌≤◌, true, false, cond, eqb, List, [], ◌∷◌, ◌++◌, map, length, get_or, take, drop, sym, refl, ap, ◌∙◌, subst, arith}
+use Rattle.std.proofs.Common.{◌≡◌, ℕ, zero, suc, ◌+◌, ◌-◌, ◌<◌, ◌≤◌, List, [], ◌∷◌, ◌++◌, map, length, get_or, take, drop, sym, ap, ◌∙◌, arith}
 use Rattle.season_logs.specs.declared.line.LogLine.{LogLine}
 use Rattle.season_logs.specs.Logs.{lines, text, Reached, FirstBad, WantsMemory}
 use Rattle.std.proofs.lemmas.List.{get_or-drop, drop-drop, length-drop, length-map, length-append, take_at, get_or_at, append_assoc, map_push}

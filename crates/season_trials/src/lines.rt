@@ -1,7 +1,7 @@
 //! Logs, good and bad.
 use kinds::Refusal;
-use season_logs::{LogLine, read_log};
 use numerals::{read_signed, read_unsigned};
+use season_logs::{LogLine, read_log};
 use std::alloc::Global;
 
 #[test]

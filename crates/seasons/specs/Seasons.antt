@@ -1,5 +1,5 @@
 -- A season's log as calls on a book of steps. Assumes nothing.
-use Rattle.std.specs.Prelude.{ℕ, ◌+◌, List, length, replicate}
+use Rattle.std.specs.Prelude.{◌+◌, List, length, replicate}
 use Rattle.kinds.specs.Steps.{none}
 use Rattle.kinds.specs.declared.steps.Steps.{Steps}
 use Rattle.ledgers.specs.declared.call.Call.{Call}

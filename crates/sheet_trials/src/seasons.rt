@@ -54,14 +54,13 @@ fn asked<K: Valued>(call: Call<i64>) -> Call<K> {
     }
 }
 
-// That a table has just these values.
-fn has<K: Valued>(rt: &impl Abort, table: &[K], values: &[i64]) -> Result<(), Fail> {
+// Whether a table has just these values.
+fn has<K: Valued>(table: &[K], values: &[i64]) -> bool {
     let mut right = table.len() == values.len();
     for (cell, value) in table.iter().zip(values) {
         right = right && cell.worth() == *value;
     }
-    assert!(rt; right);
-    Ok(())
+    right
 }
 
 // The season of these calls, on a sheet of so many cells that were not zero before.
@@ -96,24 +95,29 @@ pub(crate) fn comes_to<K: Valued>(
         calls.push(*call)?;
     }
     let replayed = played::<K>(heap, season.unit, season.cells.len(), calls.as_slice())?;
-    answers(rt, replayed.answers.as_slice(), season.calls).note(season.name)?;
-    has(rt, replayed.book.cells(), season.cells).note(season.name)?;
-    assert_eq!(rt; replayed.total.worth(), season.total, "{}", season.name);
-    reads(rt, &replayed.book, season.entries, season.total).note(season.name)
+    let answered = answers(replayed.answers.as_slice(), season.calls);
+    let kept = has(replayed.book.cells(), season.cells);
+    let read = reads(&replayed.book, season.entries, season.total);
+    let summed = replayed.total.worth() == season.total;
+    holds(rt, answered, "its answers", season.name);
+    holds(rt, kept, "its cells", season.name);
+    holds(rt, summed, "its total", season.name);
+    holds(rt, read, "its entries", season.name);
+    Ok(())
 }
 
-// That answers are those beside the calls.
-fn answers<K: Valued>(
-    rt: &impl Abort,
-    told: &[Answer<K>],
-    calls: &[(Call<i64>, Answered)],
-) -> Result<(), Fail> {
+// Ends the test, naming the season, where what was asked of it is not right.
+fn holds(rt: &impl Abort, right: bool, what: &str, season: &str) {
+    assert!(rt; right, "{season}: {what}");
+}
+
+// Whether answers are those beside the calls.
+fn answers<K: Valued>(told: &[Answer<K>], calls: &[(Call<i64>, Answered)]) -> bool {
     let mut right = told.len() == calls.len();
     for (answer, (_, expected)) in told.iter().zip(calls) {
         right = right && plainly(*answer) == *expected;
     }
-    assert!(rt; right);
-    Ok(())
+    right
 }
 
 // The value of an entry that is there, and below every value where there is none.
@@ -124,13 +128,8 @@ fn worth<K: Valued>(told: Result<K, Refusal>) -> i64 {
     }
 }
 
-// That a closed sheet reads as these entries, place by place and as a run.
-fn reads<K: Valued>(
-    rt: &impl Abort,
-    book: &ClosedSheet<K>,
-    entries: &[i64],
-    total: i64,
-) -> Result<(), Fail> {
+// Whether a closed sheet reads as these entries, place by place and as a run.
+fn reads<K: Valued>(book: &ClosedSheet<K>, entries: &[i64], total: i64) -> bool {
     let count = book.count();
     let mut right = count as usize == entries.len();
     let mut place = 0u32;
@@ -138,6 +137,5 @@ fn reads<K: Valued>(
         place = place.saturating_add(1);
         right = right && worth(book.at(place)) == *expected;
     }
-    assert!(rt; right && worth(runs::total(book, count)) == total);
-    Ok(())
+    right && worth(runs::total(book, count)) == total
 }

@@ -1,7 +1,7 @@
 -- Entries put, shifted and struck: what the sheet then refuses, leaves and tells. Assumes nothing.
-use Rattle.std.proofs.Common.{◌≡◌, ℕ, ◌+◌, ◌-◌, ◌<◌, ◌≤◌, min, ◌⊎◌, List, length, take, set, Some, None, Ok, Err, vec_items, vec_len, Option, Result, sym, refl, ap, ◌∙◌, subst, inl, inr, arith, MatchResult}
+use Rattle.std.proofs.Common.{◌≡◌, ℕ, ◌+◌, ◌-◌, ◌<◌, ◌≤◌, min, ◌⊎◌, take, set, Some, None, Ok, Err, vec_items, vec_len, Result, sym, refl, ap, ◌∙◌, subst, inl, inr, arith, MatchResult}
 use Rattle.cells.proofs.Decoding.{length-decoded}
-use Rattle.cells.specs.Cells.{SameTable, own, written}
+use Rattle.cells.specs.Cells.{SameTable}
 use Rattle.kinds.specs.Refusals.{refusal}
 use Rattle.kinds.specs.Totals.{Group}
 use Rattle.kinds.specs.declared.laws.Kind as Kind
@@ -14,10 +14,9 @@ use Rattle.sheets.proofs.Keeping.{asks_yes, asks_no, follows_out, follows_no, co
 use Rattle.sheets.specs.History.{Call, History, carried, entry, has_place, refuses, told, correct, shift, strike}
 use Rattle.sheets.specs.Room.{kept}
 use Rattle.sheets.specs.Sheets.{Follows, Keeps, Left, entries_of, entry_told, stands}
-use Rattle.sheets.specs.declared.answer.Answer.{Answer}
 use Rattle.sheets.specs.declared.answer.Answer.TheVariants.{Entry}
 use Rattle.sheets.specs.declared.sheet.Sheet.{Sheet}
-use Rattle.std.proofs.lemmas.Bool.{le-leb, lt-leb, cases_lt}
+use Rattle.std.proofs.lemmas.Bool.{le-leb, lt-leb}
 use Rattle.std.specs.Result.{result_err}
 use mathlib.Core.HLevel.{is_prop→PathP}
 use native.Mathlib.Bridge.{le_prop}

@@ -1,5 +1,5 @@
 -- What a sheet that is asked of a place or a number of entries answers. Assumes nothing.
-use Rattle.std.proofs.Common.{◌≡◌, ℕ, ◌+◌, ◌-◌, ◌<◌, ◌≤◌, true, false, ◌&&◌, leb, ◌⊎◌, length, get_or, take, Some, None, Ok, Err, vec_items, Option, Result, sym, refl, ap, ◌∙◌, inl, inr, arith}
+use Rattle.std.proofs.Common.{◌≡◌, ℕ, ◌-◌, ◌<◌, ◌≤◌, false, ◌&&◌, leb, ◌⊎◌, length, get_or, take, Some, None, Ok, Err, vec_items, Result, sym, refl, ap, ◌∙◌, inl, inr, arith}
 use Rattle.cells.proofs.Decoding.{length-decoded}
 use Rattle.kinds.specs.Refusals.{refusal}
 use Rattle.kinds.specs.Totals.{total}
@@ -10,8 +10,8 @@ use Rattle.runs.proofs.Placed.{entry_within, entry_refused, entry_read}
 use Rattle.runs.proofs.Summing.{total_there, total_past}
 use Rattle.runs.specs.Places.{entry_at, total_at}
 use Rattle.sheets.proofs.Keeping.{asks_yes, asks_no, follows_out, follows_no, count_of}
-use Rattle.sheets.specs.History.{Call, History, asks, entry, has_place, refuses, at, total_of, count}
-use Rattle.sheets.specs.Sheets.{Follows, Keeps, entries_of, entry_told, number_told, stands}
+use Rattle.sheets.specs.History.{History, entry, has_place, at, total_of, count}
+use Rattle.sheets.specs.Sheets.{Follows, Keeps, entries_of, entry_told, stands}
 use Rattle.sheets.specs.declared.answer.Answer.TheVariants.{Number, Entry}
 use Rattle.sheets.specs.declared.sheet.Sheet.{Sheet}
 use Rattle.std.proofs.lemmas.List.{get_or_default}

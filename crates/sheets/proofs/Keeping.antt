@@ -1,7 +1,7 @@
 -- How a sheet goes on keeping its history. Assumes nothing.
-use Rattle.std.proofs.Common.{◌≡◌, ℕ, ◌+◌, ◌-◌, ◌^◌, ◌<◌, ◌≤◌, Bool, true, false, leb, List, [], ◌∷◌, ◌++◌, length, get_or, take, set, is_some, Some, None, vec_items, vec_len, Option, sym, refl, ap, ◌∙◌, subst, arith}
+use Rattle.std.proofs.Common.{◌≡◌, ℕ, ◌+◌, ◌-◌, ◌<◌, ◌≤◌, Bool, true, false, leb, List, [], ◌∷◌, ◌++◌, length, get_or, take, set, is_some, Some, None, vec_items, Option, sym, refl, ap, ◌∙◌, arith}
 use Rattle.cells.proofs.Decoding.{length-decoded, cell_right}
-use Rattle.cells.specs.Cells.{Clean, cell, decoded, own}
+use Rattle.cells.specs.Cells.{Clean, decoded, own}
 use Rattle.kinds.proofs.Joins.{total-push, total-set, total-shift, total-pop}
 use Rattle.kinds.specs.Refusals.{refusal}
 use Rattle.kinds.specs.Totals.{Group, total}
@@ -9,7 +9,7 @@ use Rattle.kinds.specs.declared.laws.Kind as Kind
 use Rattle.kinds.specs.declared.laws.Reckoned as Reckoned
 use Rattle.kinds.specs.declared.refusal.Refusal.{Refusal}
 use Rattle.runs.specs.Places.{part}
-use Rattle.sheets.specs.History.{Call, History, Standing, after, answer, amount, asks, carried, entry, refuses, standing, told, wanted, enter, correct, shift, strike, park, restore, give_up, at, total_of, count}
+use Rattle.sheets.specs.History.{Call, History, after, answer, amount, asks, carried, entry, refuses, standing, told, wanted, enter, correct, shift, strike, park, restore, give_up}
 use Rattle.sheets.specs.Room.{kept}
 use Rattle.sheets.specs.Sheets.{Follows, Keeps, Left, as_number, cells_of, entries_of, stands}
 use Rattle.sheets.specs.declared.answer.Answer.{Answer}

@@ -1,5 +1,5 @@
 -- Parking and ending it: what the sheet then refuses, leaves and tells. Assumes nothing.
-use Rattle.std.proofs.Common.{◌≡◌, ℕ, ◌+◌, ◌<◌, ◌≤◌, true, false, is_some, Some, None, Option, sym, refl, ap, ◌∙◌, arith}
+use Rattle.std.proofs.Common.{◌≡◌, ℕ, ◌<◌, ◌≤◌, true, false, is_some, Some, None, Option, sym, refl, arith}
 use Rattle.kinds.specs.Refusals.{refusal}
 use Rattle.kinds.specs.declared.laws.Kind as Kind
 use Rattle.kinds.specs.declared.laws.Reckoned as Reckoned

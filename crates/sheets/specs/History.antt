@@ -4,7 +4,6 @@ use Rattle.kinds.specs.Refusals.{refusal}
 use Rattle.kinds.specs.Totals.{total}
 use Rattle.kinds.specs.declared.laws.Reckoned.{Ghosts}
 use Rattle.kinds.specs.declared.refusal.Refusal.{Refusal}
-use Rattle.sheets.specs.Room.{kept}
 use Rattle.sheets.specs.declared.answer.Answer.{Answer}
 use Rattle.sheets.specs.declared.answer.Answer.TheVariants.{Number, Entry, Slip, Refused}
 

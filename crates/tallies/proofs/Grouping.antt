@@ -1,13 +1,13 @@
 -- The groups of a list that rises, one number at a time. Assumes nothing.
-use Rattle.std.proofs.Common.{◌≡◌, ℕ, zero, suc, ◌+◌, ◌-◌, ◌^◌, ◌<◌, ◌≤◌, min, cond, eqb, List, [], ◌∷◌, ◌++◌, length, get_or, take, set, sym, refl, ap, ◌∙◌, subst, inl, inr, ⊎_elim, arith}
+use Rattle.std.proofs.Common.{◌≡◌, ℕ, ◌+◌, ◌-◌, ◌^◌, ◌<◌, cond, eqb, List, [], ◌∷◌, ◌++◌, length, get_or, take, sym, refl, ap, ◌∙◌, subst, inl, inr, arith}
 use Rattle.tallies.proofs.Counting.{Counted, counted_none, counted_new, counted_more}
-use Rattle.tallies.specs.Groups.{group, last_of, Grown, Begun, Noted}
+use Rattle.tallies.specs.Groups.{group, last_of, Noted}
 use Rattle.tallies.specs.Tallies.{times}
 use Rattle.tallies.specs.declared.records.TallyRecord.{TallyRecord}
 use Rattle.std.proofs.ByRecursion.{All-from_get_or}
 use Rattle.std.proofs.lemmas.List.{length-take-le, get_or_default, length_push, length-set, get_or-take, get_or_push, get_or-set_same, take_more}
 use Rattle.std.proofs.lemmas.List.Sums.{sum_by-cons, get_or-le-sum_by}
-use Rattle.std.proofs.lemmas.Bool.{cases_eq, ne_eqb}
+use Rattle.std.proofs.lemmas.Bool.{ne_eqb}
 use Rattle.std.specs.List.{AllByRecursion as All}
 use Rattle.std.specs.List.Sorted.{IsNonDecreasing}
 

@@ -1,8 +1,7 @@
 -- Worked examples, put to the definitions themselves. Assumes nothing.
-use Rattle.std.specs.Prelude.{◌≡◌, ℕ, ◌+◌, List, [], ◌∷◌, map, ℤ, pos, negsuc, Ok, Err, codes, Result}
+use Rattle.std.specs.Prelude.{◌≡◌, ℕ, ◌+◌, List, [], ◌∷◌, map, pos, negsuc, Ok, Err, codes}
 use Rattle.kinds.specs.Refusals.{refusal}
 use Rattle.kinds.specs.Steps.{zigzag}
-use Rattle.kinds.specs.declared.refusal.Refusal.{Refusal}
 use Rattle.kinds.specs.declared.refusal.Refusal.TheVariants.{NoPlace, NoRoom, NoMemory}
 use Rattle.logs.specs.Logs.{lines}
 use Rattle.runs.specs.Places.{part, entry_at, running, total_at}

@@ -1,7 +1,7 @@
 //! Notches as a kind: three bits, joining modulo 5. The numbers 5, 6 and 7 denote none.
 ghost use Rattle.trials.specs.Notches.{none, both, back};
 ghost use Rattle.trials.specs.Turning.{same_notches};
-ghost use Rattle.std.proofs.Common.{rules, arith};
+ghost use Rattle.std.proofs.Common.{rules};
 
 use crate::notch::Notch;
 use kinds::{Kind, Reckoned};
@@ -17,11 +17,11 @@ impl Kind for Notch {
 
     ghost number = { λ e. e.value };
 
-    ghost narrow = { first_of (Prim.search rules, Prim.grind (arith, Self.row.coded.inj)) };
+    ghost narrow = { Prim.search rules };
 
-    ghost coded = { first_of (Prim.search rules, Prim.grind (arith, Self.row.coded.inj)) };
+    ghost coded = { Prim.search rules };
 
-    ghost fits = { first_of (Prim.search rules, Prim.grind (arith, Self.row.coded.inj)) };
+    ghost fits = { Prim.search rules };
 
     ghost distinct = { same_notches };
 

@@ -1,4 +1,4 @@
-use Rattle.std.proofs.Common.{◌≡◌, ℕ, suc, ◌^◌, ◌<◌, sym, ◌∙◌, arith, rules}
+use Rattle.std.proofs.Common.{◌≡◌, suc, ◌^◌, ◌<◌, sym, ◌∙◌, arith, rules}
 use Rattle.numerals.proofs.negative.Goals as goal
 use Rattle.std.proofs.lemmas.Fmt.{decimal_injective}
 

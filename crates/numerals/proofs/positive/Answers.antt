@@ -1,4 +1,4 @@
-use Rattle.std.proofs.Common.{◌≡◌, ℕ, ◌^◌, ◌<◌, sym, ◌∙◌, arith, rules}
+use Rattle.std.proofs.Common.{◌≡◌, ◌^◌, ◌<◌, sym, ◌∙◌, arith, rules}
 use Rattle.numerals.proofs.positive.Goals as goal
 use Rattle.std.proofs.lemmas.Fmt.{decimal_injective}
 

@@ -1,4 +1,4 @@
-use Rattle.std.proofs.Common.{◌<◌, ◌∷◌, length, sym, ap, ◌∙◌, arith, rules}
+use Rattle.std.proofs.Common.{◌<◌, ◌∷◌, length, sym, ap, ◌∙◌, rules}
 use Rattle.numerals.proofs.Spelled.{minus_read, first_rest}
 use Rattle.numerals.proofs.read_signed.Goals as goal
 use Rattle.std.proofs.lemmas.List.{take_rest}

@@ -1,4 +1,4 @@
-use Rattle.std.proofs.Common.{◌≡◌, ◌≤◌, get_or, sym, ap, ◌∙◌, subst, ⊎_elim, arith, take_all}
+use Rattle.std.proofs.Common.{get_or, sym, ap, ◌∙◌, subst, ⊎_elim, arith, take_all}
 use Rattle.numerals.proofs.Spelled.{all_digits, not_large, spelled}
 use Rattle.numerals.proofs.read_unsigned.Goals as goal
 use Rattle.std.proofs.lemmas.Int.Digits.{digits_value_more, digits_more}

@@ -1,4 +1,4 @@
-use Rattle.std.proofs.Common.{◌+◌, ◌-◌, ◌<◌, length, ap, ◌∙◌, arith}
+use Rattle.std.proofs.Common.{arith}
 use Rattle.cells.proofs.Clearing.{cleared_more}
 use Rattle.cells.proofs.walk.clear.Goals as goal
 

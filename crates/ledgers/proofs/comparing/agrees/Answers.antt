@@ -2,7 +2,7 @@ use Rattle.kinds.proofs.Grouped.{group_of}
 use Rattle.ledgers.proofs.Lawful.{compared, compared_histories, counts_differ}
 use Rattle.ledgers.proofs.comparing.agrees.Goals as goal
 use Rattle.sheets.specs.Sheets.{entries_of}
-use Rattle.std.proofs.Common.{◌≡◌, false, MatchBool, sym, ap, ◌∙◌}
+use Rattle.std.proofs.Common.{◌≡◌, false, MatchBool, ◌∙◌}
 
 pub returns-then-count : goal.returns-then-count
 returns-then-count g c =

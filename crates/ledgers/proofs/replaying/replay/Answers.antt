@@ -1,4 +1,4 @@
-use Rattle.std.proofs.Common.{◌≡◌, ◌+◌, ◌<◌, [], ◌∷◌, ◌++◌, map, length, take, vec_items, sym, refl, ap, ◌∙◌, subst, arith}
+use Rattle.std.proofs.Common.{◌≡◌, ◌+◌, ◌<◌, [], ◌∷◌, ◌++◌, map, length, take, vec_items, sym, ap, ◌∙◌, subst, arith}
 use Rattle.ledgers.proofs.Lawful.{Followed, followed_none, followed_more, lawful}
 use Rattle.ledgers.proofs.replaying.replay.Goals as goal
 use Rattle.ledgers.specs.Law.{by_slip}

@@ -1,9 +1,8 @@
-use Rattle.std.proofs.Common.{◌≡◌, ℕ, ◌≤◌, length, take, Ok, vec_items, sym, ap, ◌∙◌, arith}
+use Rattle.std.proofs.Common.{◌≡◌, ℕ, take, vec_items, ap, ◌∙◌, arith}
 use Rattle.cells.proofs.Decoding.{length-decoded}
 use Rattle.kinds.specs.Totals.{total}
 use Rattle.ledgers.proofs.replaying.total_of.Goals as goal
 use Rattle.runs.proofs.Summing.{total_there}
-use Rattle.runs.specs.Places.{total_at}
 use Rattle.sheets.specs.Sheets.{entries_of}
 use Rattle.std.proofs.lemmas.List.{take_all}
 

@@ -1,4 +1,4 @@
-use Rattle.std.proofs.Common.{◌≡◌, ◌+◌, ◌-◌, ◌≤◌, ◌++◌, map, length, drop, vec_items, vec_len}
+use Rattle.std.proofs.Common.{◌≡◌, ◌-◌, ◌≤◌, ◌++◌, map, length, drop, vec_items, vec_len}
 use Rattle.logs.proofs.reading.read_log.Given as goal
 use Rattle.logs.specs.Logs.{lines, text}
 

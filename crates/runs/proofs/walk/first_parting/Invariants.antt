@@ -1,6 +1,4 @@
-use Rattle.std.proofs.Common.{◌≡◌, ◌+◌, take}
-use Rattle.kinds.specs.Steps.{reckoned}
-use Rattle.kinds.specs.Totals.{total}
+use Rattle.std.proofs.Common.{◌≡◌, ◌+◌}
 use Rattle.runs.proofs.walk.first_parting.Given as goal
 use Rattle.runs.specs.Positions.{position_after, Together}
 

@@ -1,4 +1,4 @@
-use Rattle.std.proofs.Common.{◌≡◌, ◌<◌, [], ◌∷◌, ◌++◌, map, length, take, sym, ap, ◌∙◌, arith}
+use Rattle.std.proofs.Common.{◌<◌, [], ◌∷◌, ◌++◌, map, length, take, sym, ap, ◌∙◌, arith}
 use Rattle.seasons.proofs.replaying.calls_of.Goals as goal
 use Rattle.seasons.specs.Seasons.{call_of}
 use Rattle.std.proofs.lemmas.List.{map_more, take_all}

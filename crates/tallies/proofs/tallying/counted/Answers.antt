@@ -1,10 +1,9 @@
-use Rattle.std.proofs.Common.{◌≡◌, ◌^◌, ◌<◌, map, length, vec_items, sym, ap, ◌∙◌, subst, arith}
+use Rattle.std.proofs.Common.{◌≡◌, length, vec_items, ap, ◌∙◌, arith}
 use Rattle.tallies.proofs.Distinct.{tally_shuffled}
 use Rattle.tallies.proofs.tallying.counted.Goals as goal
 use Rattle.std.proofs.lemmas.List.{length-map}
 use Rattle.std.proofs.lemmas.Result.{MatchResult-weaker}
 use Rattle.std.proofs.lemmas.List.Sorted.{IsNonDecreasingBy-from_sort, length_permutation}
-use Rattle.std.specs.List.Sorted.{IsPermutation}
 
 pub grouped-requires : goal.grouped-requires
 grouped-requires g c =

@@ -1,4 +1,4 @@
-use Rattle.std.proofs.Common.{◌<◌, length, vec_items, subst, arith, take_all}
+use Rattle.std.proofs.Common.{vec_items, subst, arith, take_all}
 use Rattle.tallies.proofs.Counting.{Counted, tallied}
 use Rattle.tallies.proofs.Distinct.{tally_few}
 use Rattle.tallies.proofs.Grouping.{grouped_none, grouped_room, grouped_more}

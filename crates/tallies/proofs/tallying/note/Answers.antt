@@ -1,4 +1,4 @@
-use Rattle.std.proofs.Common.{◌≡◌, ℕ, ◌<◌, length, vec_items, ap, ◌∙◌, inr, arith}
+use Rattle.std.proofs.Common.{◌≡◌, ◌<◌, length, vec_items, ap, ◌∙◌, inr, arith}
 use Rattle.tallies.proofs.Grouping.{last_read}
 use Rattle.tallies.proofs.tallying.note.Goals as goal
 use Rattle.tallies.proofs.tallying.note.Goals.{else-count-gt0-via-then-count-gt0+else-index-n, else-count-gt0-via-else-count-gt0}

@@ -1,4 +1,4 @@
-use Rattle.std.proofs.Common.{◌≡◌, ℕ, Ok, vec_items, sym, refl, ap, ◌∙◌, arith}
+use Rattle.std.proofs.Common.{◌≡◌, ℕ, Ok, vec_items, sym, ap, ◌∙◌, arith}
 use Rattle.cells.proofs.Decoding.{length-decoded}
 use Rattle.cells.proofs.table.Cells.join_at.Goals as goal
 use Rattle.cells.specs.Cells.{written}

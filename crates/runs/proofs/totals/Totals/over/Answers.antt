@@ -1,7 +1,7 @@
 use Rattle.kinds.proofs.Grouped.{group_of}
 use Rattle.runs.proofs.Summing.{total_read, running_more, running_all}
 use Rattle.runs.proofs.totals.Totals.over.Goals as goal
-use Rattle.std.proofs.Common.{length, sym, ap, ◌∙◌, arith}
+use Rattle.std.proofs.Common.{◌∙◌, arith}
 
 pub loop-i-preserved : goal.loop-i-preserved
 loop-i-preserved g c =

@@ -1,7 +1,7 @@
 use Rattle.kinds.proofs.Grouped.{group_of}
 use Rattle.sheets.proofs.Altered.{decided_refuses, decided_leaves, corrects}
 use Rattle.sheets.proofs.sheet.Sheet.correct.Goals as goal
-use Rattle.std.proofs.Common.{refl, ap, arith}
+use Rattle.std.proofs.Common.{refl, arith}
 
 pub invariant_of-self : goal.invariant_of-self
 invariant_of-self g c =

@@ -1,9 +1,9 @@
-use Rattle.cells.specs.Cells.{decoded, own}
+use Rattle.cells.specs.Cells.{own}
 use Rattle.kinds.proofs.Grouped.{group_of}
 use Rattle.sheets.proofs.Keeping.{keeps, none_written}
 use Rattle.sheets.proofs.sheet.Sheet.make.Goals as goal
 use Rattle.sheets.specs.History.{begun}
-use Rattle.std.proofs.Common.{vec_items, vec_len, refl, ap, ◌∙◌}
+use Rattle.std.proofs.Common.{vec_len, refl, ap}
 
 pub returns : goal.returns
 returns g c =

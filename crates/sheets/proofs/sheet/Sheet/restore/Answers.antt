@@ -3,8 +3,7 @@ use Rattle.sheets.proofs.Keeping.{follows_back, follows_out, next_count, restore
 use Rattle.sheets.proofs.Parked.{amount_so, untouched}
 use Rattle.sheets.proofs.sheet.Sheet.restore.Goals as goal
 use Rattle.sheets.specs.History.{restore}
-use Rattle.sheets.specs.Sheets.{entries_of}
-use Rattle.std.proofs.Common.{◌≡◌, [], ◌∷◌, ◌++◌, Some, sym, refl, ap, ◌∙◌}
+use Rattle.std.proofs.Common.{◌≡◌, Some, sym, refl, ap, ◌∙◌}
 
 pub returns-in_default : goal.returns-in_default
 returns-in_default g c =

@@ -1,7 +1,7 @@
 use Rattle.kinds.proofs.Grouped.{group_of}
 use Rattle.sheets.proofs.Altered.{same_shift, decided_refuses, decided_leaves, shifts}
 use Rattle.sheets.proofs.sheet.Sheet.shift.Goals as goal
-use Rattle.std.proofs.Common.{refl, ap, arith}
+use Rattle.std.proofs.Common.{refl, arith}
 
 pub invariant_of-self : goal.invariant_of-self
 invariant_of-self g c =

@@ -2,7 +2,7 @@ use Rattle.kinds.proofs.Grouped.{group_of}
 use Rattle.sheets.proofs.Altered.{strikes_refuses, strikes_leaves, strikes}
 use Rattle.sheets.proofs.sheet.Sheet.strike.Goals as goal
 use Rattle.std.proofs.lemmas.Bool.{cases_lt}
-use Rattle.std.proofs.Common.{refl, ap, arith}
+use Rattle.std.proofs.Common.{refl, arith}
 
 pub invariant_of-self : goal.invariant_of-self
 invariant_of-self g c =
