@@ -2,8 +2,8 @@
 use Rattle.kinds.specs.Refusals.{Numbered, number, every, refusal}
 use Rattle.kinds.specs.declared.refusal.Refusal.{Refusal}
 use Rattle.kinds.specs.declared.refusal.Refusal.TheVariants.{NoPlace, NoCells, NothingToStrike, AlreadyParked, WrongSlip, NotAForm, BadHead, OtherKind, UnlawfulPlan, TooManyEntries, BadLevel, StrayOnwardBits, BadDirectory, StrayChunkBits, EmptyTopChunk, NoSuchEntry, NoRoom, NoMemory}
-use Rattle.std.proofs.ByRecursion.{has_get_or}
-use Rattle.std.specs.List.{ContainsAt as Has}
+use Rattle.std.proofs.lemmas.List.Elements.{Contains-get_or}
+use Rattle.std.specs.List.{Contains}
 use Rattle.std.proofs.Common.{◌≡◌, sym, refl, ap, ◌∙◌, lit<}
 
 -- each refusal is found by its number
@@ -27,25 +27,25 @@ back NoSuchEntry = refl
 back NoRoom = refl
 back NoMemory = refl
 
-listed : (x : Refusal) → Has every x
-listed NoPlace = has_get_or every 0 NoMemory (lit< tt)
-listed NoCells = has_get_or every 1 NoMemory (lit< tt)
-listed NothingToStrike = has_get_or every 2 NoMemory (lit< tt)
-listed AlreadyParked = has_get_or every 3 NoMemory (lit< tt)
-listed WrongSlip = has_get_or every 4 NoMemory (lit< tt)
-listed NotAForm = has_get_or every 5 NoMemory (lit< tt)
-listed BadHead = has_get_or every 6 NoMemory (lit< tt)
-listed OtherKind = has_get_or every 7 NoMemory (lit< tt)
-listed UnlawfulPlan = has_get_or every 8 NoMemory (lit< tt)
-listed TooManyEntries = has_get_or every 9 NoMemory (lit< tt)
-listed BadLevel = has_get_or every 10 NoMemory (lit< tt)
-listed StrayOnwardBits = has_get_or every 11 NoMemory (lit< tt)
-listed BadDirectory = has_get_or every 12 NoMemory (lit< tt)
-listed StrayChunkBits = has_get_or every 13 NoMemory (lit< tt)
-listed EmptyTopChunk = has_get_or every 14 NoMemory (lit< tt)
-listed NoSuchEntry = has_get_or every 15 NoMemory (lit< tt)
-listed NoRoom = has_get_or every 16 NoMemory (lit< tt)
-listed NoMemory = has_get_or every 17 NoMemory (lit< tt)
+listed : (x : Refusal) → Contains every x
+listed NoPlace = Contains-get_or every 0 NoMemory (lit< tt)
+listed NoCells = Contains-get_or every 1 NoMemory (lit< tt)
+listed NothingToStrike = Contains-get_or every 2 NoMemory (lit< tt)
+listed AlreadyParked = Contains-get_or every 3 NoMemory (lit< tt)
+listed WrongSlip = Contains-get_or every 4 NoMemory (lit< tt)
+listed NotAForm = Contains-get_or every 5 NoMemory (lit< tt)
+listed BadHead = Contains-get_or every 6 NoMemory (lit< tt)
+listed OtherKind = Contains-get_or every 7 NoMemory (lit< tt)
+listed UnlawfulPlan = Contains-get_or every 8 NoMemory (lit< tt)
+listed TooManyEntries = Contains-get_or every 9 NoMemory (lit< tt)
+listed BadLevel = Contains-get_or every 10 NoMemory (lit< tt)
+listed StrayOnwardBits = Contains-get_or every 11 NoMemory (lit< tt)
+listed BadDirectory = Contains-get_or every 12 NoMemory (lit< tt)
+listed StrayChunkBits = Contains-get_or every 13 NoMemory (lit< tt)
+listed EmptyTopChunk = Contains-get_or every 14 NoMemory (lit< tt)
+listed NoSuchEntry = Contains-get_or every 15 NoMemory (lit< tt)
+listed NoRoom = Contains-get_or every 16 NoMemory (lit< tt)
+listed NoMemory = Contains-get_or every 17 NoMemory (lit< tt)
 
 pub numbered : Numbered
 numbered = record {

@@ -2,7 +2,7 @@
 use Rattle.std.specs.Prelude.{◌≡◌, ℕ, cond, List, [], ◌∷◌, length, ◌==◌}
 use Rattle.kinds.specs.declared.refusal.Refusal.{Refusal}
 use Rattle.kinds.specs.declared.refusal.Refusal.TheVariants.{NoPlace, NoCells, NothingToStrike, AlreadyParked, WrongSlip, NotAForm, BadHead, OtherKind, UnlawfulPlan, TooManyEntries, BadLevel, StrayOnwardBits, BadDirectory, StrayChunkBits, EmptyTopChunk, NoSuchEntry, NoRoom, NoMemory}
-use Rattle.std.specs.List.{ContainsAt as Has}
+use Rattle.std.specs.List.{Contains}
 
 -- the number of each refusal; 18 to 23 are kept for extensions
 abbrev pub number : Refusal → ℕ
@@ -44,6 +44,6 @@ refusal n = first_of n every
 -- there are eighteen refusals, all of them listed; no two have one number, and each is found by its own
 pub record Numbered : Type 0 where
   pub how_many : length every ≡ 18
-  pub all_listed : (x : Refusal) → Has every x
+  pub all_listed : (x : Refusal) → Contains every x
   pub distinct : (x y : Refusal) → number x ≡ number y → x ≡ y
   pub found : (x : Refusal) → refusal (number x) ≡ x

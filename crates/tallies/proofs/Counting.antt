@@ -3,11 +3,11 @@ use Rattle.std.proofs.Common.{◌≡◌, ℕ, ◌+◌, ◌<◌, ◌≤◌, Bool,
 use Rattle.tallies.specs.Groups.{group}
 use Rattle.tallies.specs.Tallies.{times, records_for, Tallied}
 use Rattle.tallies.specs.declared.records.TallyRecord.{TallyRecord}
-use Rattle.std.proofs.ByRecursion.{All-push, All-set, All-weaker}
+use Rattle.std.proofs.lemmas.List.Elements.{All-nil, All-cons, All-head, All-tail, All-push, All-set, All-weaker}
 use Rattle.std.proofs.lemmas.List.{append_assoc, length_push}
 use Rattle.std.proofs.lemmas.List.Sums.{sum_by-cons, sum_by-append, sum_by_push, sum_by-set}
 use Rattle.std.proofs.lemmas.Bool.{eqb-true, eq-eqb}
-use Rattle.std.specs.List.{AllByRecursion as All}
+use Rattle.std.specs.List.{All}
 
 -- what the records say of n
 abbrev told : ℕ → TallyRecord → ℕ
@@ -30,7 +30,7 @@ pub record Counted (ns : List ℕ) (rs : List TallyRecord) : Type 0 where
   pub adds_up : sum_by count_of rs ≡ length ns
 
 pub counted_none : Counted [] []
-counted_none = record { distinct = λ n. omega arith; counts = λ n. refl; used = tt; adds_up = refl }
+counted_none = record { distinct = λ n. omega arith; counts = λ n. refl; used = All-nil (λ (r : TallyRecord). 0 < r.times); adds_up = refl }
 
 -- where each record counts something, what is not counted has no record
 unused : (n : ℕ) (rs : List TallyRecord) → All (λ (r : TallyRecord). 0 < r.times) rs → recorded n rs ≡ 0 → records_for n rs ≡ 0
@@ -38,7 +38,7 @@ unused n [] u z = refl
 unused n (r ∷ rs) u z =
     let a = sum_by-cons (told n) r rs in
     let b = sum_by-cons (one_for n) r rs in
-    let go : (t : Bool) → cond t r.times 0 + recorded n rs ≡ 0 → cond t 1 0 + records_for n rs ≡ 0 = λ t. elim t as (λ t. cond t r.times 0 + recorded n rs ≡ 0 → cond t 1 0 + records_for n rs ≡ 0) [ true ↦ (λ h. absurd (omega (arith, u.0))) | false ↦ (λ h. omega (arith, unused n rs u.1)) ] in
+    let go : (t : Bool) → cond t r.times 0 + recorded n rs ≡ 0 → cond t 1 0 + records_for n rs ≡ 0 = λ t. elim t as (λ t. cond t r.times 0 + recorded n rs ≡ 0 → cond t 1 0 + records_for n rs ≡ 0) [ true ↦ (λ h. absurd (omega (arith, All-head (λ (r : TallyRecord). 0 < r.times) r rs u))) | false ↦ (λ h. omega (arith, unused n rs (All-tail (λ (r : TallyRecord). 0 < r.times) r rs u))) ] in
     b ∙ go (eqb n r.number) (sym a ∙ z)
 
 -- what has no record is not counted
@@ -92,8 +92,8 @@ module _ (ns : List ℕ) (rs : List TallyRecord) (x : ℕ) (old : Counted ns rs)
 
 -- under distinct numbers each record says what all of them say of its number
 own : (pre rs : List TallyRecord) → ((n : ℕ) → records_for n (pre ++ rs) ≤ 1) → All (λ (r : TallyRecord). r.times ≡ recorded r.number (pre ++ rs)) rs
-own pre [] d = tt
-own pre (r ∷ rs) d = (here, subst (λ all. All (λ (q : TallyRecord). q.times ≡ recorded q.number all) rs) (append_assoc pre (r ∷ []) rs) (own (pre ++ (r ∷ [])) rs (λ n. subst (λ l. records_for n l ≤ 1) (sym (append_assoc pre (r ∷ []) rs)) (d n))))
+own pre [] d = All-nil (λ (r : TallyRecord). r.times ≡ recorded r.number (pre ++ []))
+own pre (r ∷ rs) d = All-cons (λ (r' : TallyRecord). r'.times ≡ recorded r'.number (pre ++ (r ∷ rs))) r rs here (subst (λ all. All (λ (q : TallyRecord). q.times ≡ recorded q.number all) rs) (append_assoc pre (r ∷ []) rs) (own (pre ++ (r ∷ [])) rs (λ n. subst (λ l. records_for n l ≤ 1) (sym (append_assoc pre (r ∷ []) rs)) (d n))))
   where
     here : r.times ≡ recorded r.number (pre ++ (r ∷ rs))
     here =

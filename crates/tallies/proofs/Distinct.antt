@@ -4,13 +4,13 @@ use Rattle.kinds.specs.declared.refusal.Refusal.{Refusal}
 use Rattle.tallies.specs.Groups.{Written}
 use Rattle.tallies.specs.Tallies.{times, records_for, different, Tallied, Answered}
 use Rattle.tallies.specs.declared.records.TallyRecord.{TallyRecord}
-use Rattle.std.proofs.ByRecursion.{All-weaker}
+use Rattle.std.proofs.lemmas.List.Elements.{All-nil, All-cons, All-head, All-tail, All-weaker}
 use Rattle.std.proofs.lemmas.List.{length-map, take_at, drop_at}
 use Rattle.std.proofs.lemmas.List.Sorted.{length_permutation, sum_by-IsPermutation}
 use Rattle.std.proofs.lemmas.List.Sums.{sum_by-cons}
 use Rattle.std.proofs.lemmas.Bool.{cases_lt, cases_eq, eq-eqb, ne_eqb, lt-ltb, le-ltb}
 use Rattle.std.specs.List.Sorted.{IsPermutation}
-use Rattle.std.specs.List.{AllByRecursion as All}
+use Rattle.std.specs.List.{All}
 
 -- how many numbers below b pass a test
 passing : (ℕ → Bool) → ℕ → ℕ
@@ -71,8 +71,8 @@ by_value : (xs : List ℕ) (b : ℕ) → All (λ x. x < b) xs → different xs �
 by_value [] b h = none_passing b
 by_value (x ∷ xs) b h =
     let one = passing_one (has (x ∷ xs)) (has xs) x (lt-ltb 0 (times x (x ∷ xs)) (omega (arith, times_here x xs))) (λ n ne. ap (ltb 0) (times_there n x xs ne)) b in
-    let within : ltb x b ≡ true = lt-ltb x b h.0 in
-    omega (arith, by_value xs b h.1, rw within at one)
+    let within : ltb x b ≡ true = lt-ltb x b (All-head (λ y. y < b) x xs h) in
+    omega (arith, by_value xs b (All-tail (λ y. y < b) x xs h), rw within at one)
 
 -- a number above all of a list
 above : List ℕ → ℕ
@@ -81,8 +81,8 @@ above (x ∷ xs) = max (suc x) (above xs)
 
 above_all : (xs : List ℕ) (b : ℕ) → above xs ≤ b → All (λ x. x < b) xs
 unfolding above
-above_all [] b h = tt
-above_all (x ∷ xs) b h = (omega arith, above_all xs b (omega arith))
+above_all [] b h = All-nil (λ x. x < b)
+above_all (x ∷ xs) b h = All-cons (λ y. y < b) x xs (omega arith) (above_all xs b (omega arith))
 
 -- lists with the same numbers have as many different ones
 pub different_same : (xs ys : List ℕ) → ((n : ℕ) → has xs n ≡ has ys n) → different xs ≡ different ys
@@ -111,10 +111,10 @@ records_times n (r ∷ rs) =
 -- a record is for a number that occurs
 occurs : (ns : List ℕ) (n : ℕ) (rs : List TallyRecord) → All (λ (r : TallyRecord). r.times ≡ times r.number ns) rs → All (λ (r : TallyRecord). 0 < r.times) rs → 0 < records_for n rs → 0 < times n ns
 occurs ns n [] x u h = absurd (omega arith)
-occurs ns n (r ∷ rs) x u h = ⊎_elim here (λ e. occurs ns n rs x.1 u.1 (further e)) (cases_eq n r.number)
+occurs ns n (r ∷ rs) x u h = ⊎_elim here (λ e. occurs ns n rs (All-tail (λ (q : TallyRecord). q.times ≡ times q.number ns) r rs x) (All-tail (λ (q : TallyRecord). 0 < q.times) r rs u) (further e)) (cases_eq n r.number)
   where
     here : n ≡ r.number → 0 < times n ns
-    here e = subst (λ m. 0 < times m ns) (sym e) (omega (arith, x.0, u.0))
+    here e = subst (λ m. 0 < times m ns) (sym e) (omega (arith, All-head (λ (q : TallyRecord). q.times ≡ times q.number ns) r rs x, All-head (λ (q : TallyRecord). 0 < q.times) r rs u))
 
     further : (n ≡ r.number → ⊥) → 0 < records_for n rs
     further e =
@@ -155,7 +155,7 @@ tally_few ns rs t = omega (arith, at_least rs t.used, t.adds_up)
   where
     at_least : (rs : List TallyRecord) → All (λ (r : TallyRecord). 0 < r.times) rs → length rs ≤ sum_by (λ (r : TallyRecord). r.times) rs
     at_least [] u = omega arith
-    at_least (r ∷ rs) u = omega (arith, sum_by-cons (λ (r : TallyRecord). r.times) r rs, at_least rs u.1, u.0)
+    at_least (r ∷ rs) u = omega (arith, sum_by-cons (λ (r : TallyRecord). r.times) r rs, at_least rs (All-tail (λ (q : TallyRecord). 0 < q.times) r rs u), All-head (λ (q : TallyRecord). 0 < q.times) r rs u)
 
 -- a tally written to the front of a table is the answer
 pub answered : (ns : List ℕ) (rs before after : List TallyRecord) (r : Result ℕ Refusal) → Tallied ns rs → Written rs before after r → Answered ns before after r

@@ -4,11 +4,11 @@ use Rattle.tallies.proofs.Counting.{Counted, counted_none, counted_new, counted_
 use Rattle.tallies.specs.Groups.{group, last_of, Noted}
 use Rattle.tallies.specs.Tallies.{times}
 use Rattle.tallies.specs.declared.records.TallyRecord.{TallyRecord}
-use Rattle.std.proofs.ByRecursion.{All-from_get_or}
+use Rattle.std.proofs.lemmas.List.Elements.{All-head, All-tail, All-from_get_or}
 use Rattle.std.proofs.lemmas.List.{length-take-le, get_or_default, length_push, length-set, get_or-take, get_or_push, get_or-set_same, take_more}
 use Rattle.std.proofs.lemmas.List.Sums.{sum_by-cons, get_or-le-sum_by}
 use Rattle.std.proofs.lemmas.Bool.{ne_eqb}
-use Rattle.std.specs.List.{AllByRecursion as All}
+use Rattle.std.specs.List.{All}
 use Rattle.std.specs.List.Sorted.{IsNonDecreasing}
 
 -- the groups of the first i numbers, the last of them that of the number read last
@@ -34,8 +34,8 @@ grouped_room s i (r ∷ rs) g within few =
 never : (x : ℕ) (xs : List ℕ) → All (λ m. m < x) xs → times x xs ≡ 0
 never x [] h = refl
 never x (m ∷ ms) h =
-    let f = ap (λ t. cond {A = ℕ} t 1 0) (ne_eqb x m (λ e. omega (arith, h.0))) in
-    omega (arith, sum_by-cons (λ n. cond {A = ℕ} (eqb x n) 1 0) m ms, never x ms h.1)
+    let f = ap (λ t. cond {A = ℕ} t 1 0) (ne_eqb x m (λ e. omega (arith, All-head (λ k. k < x) m ms h))) in
+    omega (arith, sum_by-cons (λ n. cond {A = ℕ} (eqb x n) 1 0) m ms, never x ms (All-tail (λ k. k < x) m ms h))
 
 module _ (s : List ℕ) (i : ℕ) (gs : List TallyRecord) (rising : IsNonDecreasing s) (within : i < length s) (old : Grouped s i gs) where
   -- a number that is not the last one's is new

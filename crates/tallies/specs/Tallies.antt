@@ -3,7 +3,7 @@ use Rattle.std.specs.Prelude.{◌≡◌, ℕ, ◌+◌, ◌<◌, ◌≤◌, cond,
 use Rattle.kinds.specs.Refusals.{refusal}
 use Rattle.kinds.specs.declared.refusal.Refusal.{Refusal}
 use Rattle.tallies.specs.declared.records.TallyRecord.{TallyRecord}
-use Rattle.std.specs.List.{AllByRecursion as All}
+use Rattle.std.specs.List.{All}
 
 -- how often n occurs in a list
 abbrev pub times : ℕ → List ℕ → ℕ
