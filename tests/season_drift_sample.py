@@ -1,8 +1,8 @@
 #!/usr/bin/env python3
-"""Makes the sample season of drift and what drift must print of it.
+"""Makes the sample season of season_drift and what season_drift must print of it.
 
 The rules are taken from docs/RULES.md and worked out here a second time, apart from the programs.
-Run it at the top of the repository; it writes crates/drift/data/ and crates/drift/stdout."""
+Run it at the top of the repository; it writes crates/season_drift/data/ and crates/season_drift/stdout."""
 import random
 
 random.seed(6)
@@ -55,10 +55,10 @@ def report(name, log):
 
 logs = (("auto", auto), ("heating", heating), ("fitter", list(auto)))
 for name, log in logs:
-    with open("crates/drift/data/%s.txt" % name, "w") as f:
+    with open("crates/season_drift/data/%s.txt" % name, "w") as f:
         f.write("".join("%s\n" % line for line in log))
 gap = wrap(sum(entries(auto))) - wrap(sum(entries(heating)))
-with open("crates/drift/stdout", "w") as f:
+with open("crates/season_drift/stdout", "w") as f:
     out = report("auto.txt", auto) + report("heating.txt", heating)
     out += ["The totals part by %d steps" % gap]
     out += report("fitter.txt", auto) + ["auto.txt and fitter.txt agree entry for entry"]

@@ -157,21 +157,11 @@ SEASONS = [
 ]
 
 HEAD = """//! Seasons, and what each must come to. Written by tests/sheet_cases.py: alter it there.
-use crate::seasons::Answered::Entry;
-use crate::seasons::Answered::Number;
-use crate::seasons::Answered::Refused;
-use crate::seasons::Answered::Slip;
-use crate::seasons::Season;
-use crate::seasons::comes_to;
-use crate::valued::CountsValued;
-use crate::valued::FlagsValued;
-use crate::valued::NotchValued;
-use crate::valued::StepsValued;
-use kinds::Counts;
-use kinds::Flags;
-use kinds::Steps;
+use crate::seasons::Answered::{Entry, Number, Refused, Slip};
+use crate::seasons::{Season, comes_to};
+use kinds::{Counts, Flags, Steps};
 use ledgers::Call;
-use std::test::*;
+use std::test::Fail;
 use trials::Notch;
 """
 
@@ -194,10 +184,10 @@ with open("crates/sheet_trials/src/cases.rt", "w") as f:
     f.write(HEAD)
     for group in dict.fromkeys(s[0] for s in SEASONS):
         seasons = [s[1:] for s in SEASONS if s[0] == group]
-        out = ["", "#[test]", "fn %s(rt: LibcRuntime) -> Result<(), Fail> {" % group, "    let heap = rt.alloc();"]
+        out = ["", "#[test]", "fn %s(rt: HostRuntime) -> Result<(), Fail> {" % group, "    let heap = rt.alloc();"]
         out += ["    for season in ["]
         for s in seasons:
             out += written(*s)
-        out += ["    ] {", "        comes_to::<%s>(heap, season)?;" % seasons[0][1], "    }", "    Ok(())", "}"]
+        out += ["    ] {", "        comes_to::<%s>(&rt, heap, season)?;" % seasons[0][1], "    }", "    Ok(())", "}"]
         f.write("\n".join(out) + "\n")
 print(len(SEASONS), "seasons,", sum(len(s[5]) for s in SEASONS), "calls")

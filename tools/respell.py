@@ -5,9 +5,10 @@ usage: python3 tools/respell.py            at the top of the repository
 
 A definition, a field or a lemma is in snake case, a type or a fact in upper camel case. A dash stays
 in a lemma that joins two names, as in `total-append`, the total of two lists appended. What a name
-would fall together with, a function of src/ or a name of the library, is named in RENAMED. Functions
-of src/, exported names, strings, inputs and outputs are left alone; must-fail edits are turned with
-the text that they edit. Running it again changes nothing.
+would fall together with, a function of src/ or a name of the library, is named in RENAMED. Names
+that a `ghost use` gives are turned likewise. Functions of src/, exported names, strings, inputs and
+outputs are left alone; must-fail edits are turned with the text that they edit. Running it again
+changes nothing.
 """
 
 import glob
@@ -37,6 +38,7 @@ DECLARED = re.compile(
     r"^[ \t]*(?:(?:abbrev|unfoldable|pub)\s+)*(?:(?:record|data)\s+([A-Za-z][\w']*(?:-[\w']+)+)\b|([A-Za-z][\w']*(?:-[\w']+)+)\s*:(?!\s*(?:goal|need)\.))",
     re.M,
 )
+ALIAS = re.compile(r"\bas ([a-z][\w']*(?:-[\w']+)+)")
 WORD = re.compile(r"(?<![\w'-])([A-Za-z][\w']*(?:-[\w']+)+)(?![\w'-])")
 STRING = re.compile(r'b?"(?:[^"\\]|\\.)*"')
 
@@ -51,12 +53,19 @@ def snake_or_camel(name):
 
 
 def declared():
-    """The names with dashes that the files of specs/ and proofs/ declare."""
+    """The names with dashes that specs/ and proofs/ declare, and those that a `ghost use` gives."""
     found = set()
     for path in antt():
         with open(path, encoding="utf-8") as f:
             found |= {a or b for a, b in DECLARED.findall(f.read())}
+    for path in sources():
+        with open(path, encoding="utf-8") as f:
+            found |= {a for line in f if line.startswith("ghost use") for a in ALIAS.findall(line)}
     return found - JOINED
+
+
+def sources():
+    return glob.glob("crates/*/src/**/*.rt", recursive=True)
 
 
 def antt():
@@ -79,7 +88,7 @@ def outside_strings(text, names):
 def main():
     names = declared()
     changed = 0
-    paths = antt() + glob.glob("crates/*/src/**/*.rt", recursive=True) + glob.glob("crates/*/must-fail/*.edit")
+    paths = antt() + sources() + glob.glob("crates/*/must-fail/*.edit")
     for path in sorted(paths):
         with open(path, encoding="utf-8") as f:
             old = f.read()

@@ -1,7 +1,7 @@
 //! Any call on a ledger, and its end.
 ghost use Rattle.ledgers.specs.Law.{by_slip};
 ghost use Rattle.ledgers.specs.Unchanged.{TurnedDown};
-ghost use Rattle.sheets.specs.History.{History, after, give_up, park as ask-park};
+ghost use Rattle.sheets.specs.History.{History, after, give_up, park as ask_park};
 ghost use Rattle.sheets.specs.Sheets.{Follows, Keeps, SameBook, entry_told, number_told};
 ghost use Rattle.std.specs.Prelude.{◌≡◌, None as Unparked};
 
@@ -57,7 +57,7 @@ impl<K: Reckoned> Ledger<K> {
     fn park_told(&mut self) -> Answer<K>
         ensures stays { SameBook K.Reckoned.own self.old.sheet self.new.sheet }
         ensures unchanged { TurnedDown result self.old self.new }
-        ensures follows_history { Follows K.Kind K.Reckoned.own ask-park self.old.sheet self.new.sheet result }
+        ensures follows_history { Follows K.Kind K.Reckoned.own ask_park self.old.sheet self.new.sheet result }
     {
         let unit = self.sheet.unit();
         match self.park() {

@@ -1,7 +1,7 @@
 //! A sheet and the place where its slip is held.
 ghost use Rattle.std.specs.Prelude.{◌≡◌, ◌+◌, true, None as Unparked, MatchResult};
 ghost use Rattle.ledgers.specs.Holding.{fit, slip_kept};
-ghost use Rattle.sheets.specs.History.{give_up, park as ask-park, refuses, restore as ask-restore};
+ghost use Rattle.sheets.specs.History.{give_up, park as ask_park, refuses, restore as ask_restore};
 ghost use Rattle.sheets.specs.Sheets.{Follows, SameBook, number_told, stands};
 ghost use Rattle.std.specs.Result.{result_err};
 
@@ -15,10 +15,10 @@ pub(crate) fn park<K: Reckoned>(
 ) -> Result<u32, Refusal>
     requires { fit held.old sheet.old.unit sheet.old.parked ≡ true }
     ensures fits { fit held.new sheet.new.unit sheet.new.parked ≡ true }
-    ensures refuses { result_err result ≡ refuses {K = K} (stands sheet.old) ask-park }
+    ensures refuses { result_err result ≡ refuses {K = K} (stands sheet.old) ask_park }
     ensures stays { SameBook K.Reckoned.own sheet.old sheet.new }
     ensures answers { MatchResult result (λ n. n ≡ sheet.new.cells.count) (λ _. (sheet.new ≡ sheet.old) × (held.new ≡ held.old)) }
-    ensures follows_history { Follows K.Kind K.Reckoned.own ask-park sheet.old sheet.new (slip_kept sheet.old.unit result) }
+    ensures follows_history { Follows K.Kind K.Reckoned.own ask_park sheet.old sheet.new (slip_kept sheet.old.unit result) }
 {
     let slip = sheet.park()?;
     *held = Some(slip);
@@ -32,10 +32,10 @@ pub(crate) fn restore<K: Reckoned>(
 ) -> Result<u32, Refusal>
     requires { fit held.old sheet.old.unit sheet.old.parked ≡ true }
     ensures fits { fit held.new sheet.new.unit sheet.new.parked ≡ true }
-    ensures refuses { result_err result ≡ refuses {K = K} (stands sheet.old) (ask-restore sheet.old.unit) }
+    ensures refuses { result_err result ≡ refuses {K = K} (stands sheet.old) (ask_restore sheet.old.unit) }
     ensures stays { SameBook K.Reckoned.own sheet.old sheet.new }
     ensures answers { MatchResult result (λ n. n ≡ sheet.old.cells.count + 1) (λ _. (sheet.new ≡ sheet.old) × (held.new ≡ held.old)) }
-    ensures follows_history { Follows K.Kind K.Reckoned.own (ask-restore sheet.old.unit) sheet.old sheet.new (number_told result) }
+    ensures follows_history { Follows K.Kind K.Reckoned.own (ask_restore sheet.old.unit) sheet.old sheet.new (number_told result) }
 {
     let Some(slip) = held.take() else {
         return Err(Refusal::WrongSlip);

@@ -3,7 +3,7 @@ ghost use Rattle.std.specs.Prelude.{◌≡◌, ◌+◌, drop, vec_len, MatchResu
 ghost use Rattle.cells.specs.Cells.{limit, own};
 ghost use Rattle.ledgers.specs.Holding.{slip_kept};
 ghost use Rattle.ledgers.specs.Unchanged.{Unchanged};
-ghost use Rattle.sheets.specs.History.{begun, correct as ask-correct, enter as ask-enter, give_up, park as ask-park, refuses, restore as ask-restore, shift as ask-shift, strike as ask-strike};
+ghost use Rattle.sheets.specs.History.{begun, correct as ask_correct, enter as ask_enter, give_up, park as ask_park, refuses, restore as ask_restore, shift as ask_shift, strike as ask_strike};
 ghost use Rattle.sheets.specs.Sheets.{Follows, Keeps, SameBook, entry_told, number_told, stands};
 ghost use Rattle.std.specs.Result.{result_err};
 
@@ -35,50 +35,50 @@ impl<K: Reckoned> Ledger<K> {
 
     /// Adds an entry at the end and answers the new count. Refused as `Sheet::enter`.
     pub fn enter(&mut self, entry: K) -> Result<u32, Refusal>
-        ensures refuses { result_err result ≡ refuses (stands self.old.sheet) (ask-enter entry) }
+        ensures refuses { result_err result ≡ refuses (stands self.old.sheet) (ask_enter entry) }
         ensures stays { SameBook K.Reckoned.own self.old.sheet self.new.sheet }
         ensures unchanged { Unchanged result self.old self.new }
-        ensures follows_history { Follows K.Kind K.Reckoned.own (ask-enter entry) self.old.sheet self.new.sheet (number_told result) }
+        ensures follows_history { Follows K.Kind K.Reckoned.own (ask_enter entry) self.old.sheet self.new.sheet (number_told result) }
     {
         self.sheet.enter(entry)
     }
 
     /// Puts `entry` at `place` and answers the entry that stood there. Refused as `Sheet::correct`.
     pub fn correct(&mut self, place: u32, entry: K) -> Result<K, Refusal>
-        ensures refuses { result_err result ≡ refuses (stands self.old.sheet) (ask-correct place entry) }
+        ensures refuses { result_err result ≡ refuses (stands self.old.sheet) (ask_correct place entry) }
         ensures stays { SameBook K.Reckoned.own self.old.sheet self.new.sheet }
         ensures unchanged { Unchanged result self.old self.new }
-        ensures follows_history { Follows K.Kind K.Reckoned.own (ask-correct place entry) self.old.sheet self.new.sheet (entry_told result) }
+        ensures follows_history { Follows K.Kind K.Reckoned.own (ask_correct place entry) self.old.sheet self.new.sheet (entry_told result) }
     {
         self.sheet.correct(place, entry)
     }
 
     /// Joins `amount` to the entry at `place` and answers the new entry. Refused as `Sheet::shift`.
     pub fn shift(&mut self, place: u32, amount: K) -> Result<K, Refusal>
-        ensures refuses { result_err result ≡ refuses (stands self.old.sheet) (ask-shift place amount) }
+        ensures refuses { result_err result ≡ refuses (stands self.old.sheet) (ask_shift place amount) }
         ensures stays { SameBook K.Reckoned.own self.old.sheet self.new.sheet }
         ensures unchanged { Unchanged result self.old self.new }
-        ensures follows_history { Follows K.Kind K.Reckoned.own (ask-shift place amount) self.old.sheet self.new.sheet (entry_told result) }
+        ensures follows_history { Follows K.Kind K.Reckoned.own (ask_shift place amount) self.old.sheet self.new.sheet (entry_told result) }
     {
         self.sheet.shift(place, amount)
     }
 
     /// Removes the last entry and answers it. Refused as `Sheet::strike`.
     pub fn strike(&mut self) -> Result<K, Refusal>
-        ensures refuses { result_err result ≡ refuses {K = K} (stands self.old.sheet) ask-strike }
+        ensures refuses { result_err result ≡ refuses {K = K} (stands self.old.sheet) ask_strike }
         ensures stays { SameBook K.Reckoned.own self.old.sheet self.new.sheet }
         ensures unchanged { Unchanged result self.old self.new }
-        ensures follows_history { Follows K.Kind K.Reckoned.own ask-strike self.old.sheet self.new.sheet (entry_told result) }
+        ensures follows_history { Follows K.Kind K.Reckoned.own ask_strike self.old.sheet self.new.sheet (entry_told result) }
     {
         self.sheet.strike()
     }
 
     /// Parks the sheet, keeps its slip and answers the new count. Refused as `Sheet::park`.
     pub fn park(&mut self) -> Result<u32, Refusal>
-        ensures refuses { result_err result ≡ refuses {K = K} (stands self.old.sheet) ask-park }
+        ensures refuses { result_err result ≡ refuses {K = K} (stands self.old.sheet) ask_park }
         ensures stays { SameBook K.Reckoned.own self.old.sheet self.new.sheet }
         ensures answers { MatchResult result (λ n. n ≡ self.new.sheet.cells.count) (λ _. (self.new.sheet ≡ self.old.sheet) × (self.new.slip ≡ self.old.slip)) }
-        ensures follows_history { Follows K.Kind K.Reckoned.own ask-park self.old.sheet self.new.sheet (slip_kept self.old.sheet.unit result) }
+        ensures follows_history { Follows K.Kind K.Reckoned.own ask_park self.old.sheet self.new.sheet (slip_kept self.old.sheet.unit result) }
     {
         holding::park(&mut self.sheet, &mut self.slip)
     }
@@ -86,10 +86,10 @@ impl<K: Reckoned> Ledger<K> {
     /// Restores by the slip that is held and answers the new count. Refused with 5 exactly when no
     /// slip is held.
     pub fn restore(&mut self) -> Result<u32, Refusal>
-        ensures refuses { result_err result ≡ refuses {K = K} (stands self.old.sheet) (ask-restore self.old.sheet.unit) }
+        ensures refuses { result_err result ≡ refuses {K = K} (stands self.old.sheet) (ask_restore self.old.sheet.unit) }
         ensures stays { SameBook K.Reckoned.own self.old.sheet self.new.sheet }
         ensures answers { MatchResult result (λ n. n ≡ self.old.sheet.cells.count + 1) (λ _. (self.new.sheet ≡ self.old.sheet) × (self.new.slip ≡ self.old.slip)) }
-        ensures follows_history { Follows K.Kind K.Reckoned.own (ask-restore self.old.sheet.unit) self.old.sheet self.new.sheet (number_told result) }
+        ensures follows_history { Follows K.Kind K.Reckoned.own (ask_restore self.old.sheet.unit) self.old.sheet self.new.sheet (number_told result) }
     {
         holding::restore(&mut self.sheet, &mut self.slip)
     }

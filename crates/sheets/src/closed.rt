@@ -1,7 +1,7 @@
 //! A sheet when the season has ended.
 ghost use Rattle.runs.specs.Places.{entry_at, total_at};
 ghost use Rattle.sheets.specs.Few.{entries_few};
-ghost use Rattle.sheets.specs.History.{History, at as ask-at, count as ask-count, give_up, refuses, total_of};
+ghost use Rattle.sheets.specs.History.{History, at as ask_at, count as ask_count, give_up, refuses, total_of};
 ghost use Rattle.sheets.specs.Sheets.{Follows, GivenUp, Keeps, SameBook, entries_of, entry_told, number_told, stands, without_slip};
 ghost use Rattle.std.specs.Prelude.{◌≡◌, Ok, MatchResult};
 ghost use Rattle.std.specs.Result.{result_err};
@@ -33,7 +33,7 @@ impl<K: Reckoned> ClosedSheet<K> {
     /// How many entries there are.
     pub fn count(&self) -> u32
         ensures counts { result ≡ self.now.sheet.cells.count }
-        ensures follows_history { Follows K.Kind K.Reckoned.own ask-count self.now.sheet self.now.sheet (number_told (Ok result)) }
+        ensures follows_history { Follows K.Kind K.Reckoned.own ask_count self.now.sheet self.now.sheet (number_told (Ok result)) }
     {
         self.sheet.count()
     }
@@ -49,7 +49,7 @@ impl<K: Reckoned> ClosedSheet<K> {
     /// above the count.
     pub fn at(&self, place: u32) -> Result<K, Refusal>
         ensures answers { result ≡ entry_at (entries_of K.Reckoned.own self.now.sheet) place }
-        ensures follows_history { Follows K.Kind K.Reckoned.own (ask-at place) self.now.sheet self.now.sheet (entry_told result) }
+        ensures follows_history { Follows K.Kind K.Reckoned.own (ask_at place) self.now.sheet self.now.sheet (entry_told result) }
     {
         self.sheet.at(place)
     }

@@ -1,6 +1,6 @@
 //! Parking a sheet and ending the parking.
 ghost use Rattle.kinds.specs.Refusals.{refusal as numbered};
-ghost use Rattle.sheets.specs.History.{give_up, park as ask-park, refuses, restore as ask-restore, takes_slip};
+ghost use Rattle.sheets.specs.History.{give_up, park as ask_park, refuses, restore as ask_restore, takes_slip};
 ghost use Rattle.sheets.specs.Sheets.{Follows, GivenUp, Parked, Restored, SameBook, number_told, slip_told, stands, without_slip};
 ghost use Rattle.std.specs.Result.{result_err};
 ghost use Rattle.std.specs.Prelude.{◌≡◌, Some as Kept, None as Unparked, MatchOption, MatchResult};
@@ -25,10 +25,10 @@ impl<K: Reckoned> Sheet<K> {
     /// parked amount, and answers a slip that bears the unit number. Refused with 4 exactly when an
     /// amount is parked already, else with 2 exactly when fewer than two cells are free.
     pub fn park(&mut self) -> Result<Slip, Refusal>
-        ensures refuses { result_err result ≡ refuses {K = K} (stands self.old) ask-park }
+        ensures refuses { result_err result ≡ refuses {K = K} (stands self.old) ask_park }
         ensures stays { SameBook K.Reckoned.own self.old self.new }
         ensures leaves { MatchResult result (Parked K.Kind K.Reckoned.own self.old self.new) (λ _. self.new ≡ self.old) }
-        ensures follows_history { Follows K.Kind K.Reckoned.own ask-park self.old self.new (slip_told result) }
+        ensures follows_history { Follows K.Kind K.Reckoned.own ask_park self.old self.new (slip_told result) }
     {
         if self.parked.is_some() {
             return Err(Refusal::AlreadyParked);
@@ -56,10 +56,10 @@ impl<K: Reckoned> Sheet<K> {
     /// Refused with 5 exactly when nothing is parked or the unit number is not the slip's; the slip
     /// is then handed back.
     pub fn restore(&mut self, slip: Slip) -> Result<u32, HandedBack>
-        ensures refuses { result_err (without_slip result) ≡ refuses {K = K} (stands self.old) (ask-restore slip.unit) }
+        ensures refuses { result_err (without_slip result) ≡ refuses {K = K} (stands self.old) (ask_restore slip.unit) }
         ensures stays { SameBook K.Reckoned.own self.old self.new }
         ensures leaves { MatchResult result (Restored K.Kind K.Reckoned.own self.old self.new) (λ back. (back.slip ≡ slip) × (self.new ≡ self.old)) }
-        ensures follows_history { Follows K.Kind K.Reckoned.own (ask-restore slip.unit) self.old self.new (number_told (without_slip result)) }
+        ensures follows_history { Follows K.Kind K.Reckoned.own (ask_restore slip.unit) self.old self.new (number_told (without_slip result)) }
     {
         let Some(number) = self.parked_under(&slip) else {
             return Err(slip.hand_back());

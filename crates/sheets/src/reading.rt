@@ -1,6 +1,6 @@
 //! Reading a sheet.
 ghost use Rattle.runs.specs.Places.{entry_at, total_at};
-ghost use Rattle.sheets.specs.History.{at as ask-at, count as ask-count, free as left-free, total_of, wanted as cells-wanted};
+ghost use Rattle.sheets.specs.History.{at as ask_at, count as ask_count, free as left_free, total_of, wanted as cells_wanted};
 ghost use Rattle.sheets.specs.Sheets.{Follows, entries_of, entry_told, number_told, stands};
 ghost use Rattle.std.specs.Prelude.{◌≡◌, is_some, Ok};
 
@@ -18,7 +18,7 @@ impl<K: Reckoned> Sheet<K> {
     /// How many entries there are.
     pub fn count(&self) -> u32
         ensures counts { result ≡ self.now.cells.count }
-        ensures follows_history { Follows K.Kind K.Reckoned.own ask-count self.now self.now (number_told (Ok result)) }
+        ensures follows_history { Follows K.Kind K.Reckoned.own ask_count self.now self.now (number_told (Ok result)) }
     {
         self.cells.count()
     }
@@ -34,7 +34,7 @@ impl<K: Reckoned> Sheet<K> {
     /// above the count.
     pub fn at(&self, place: u32) -> Result<K, Refusal>
         ensures answers { result ≡ entry_at (entries_of K.Reckoned.own self.now) place }
-        ensures follows_history { Follows K.Kind K.Reckoned.own (ask-at place) self.now self.now (entry_told result) }
+        ensures follows_history { Follows K.Kind K.Reckoned.own (ask_at place) self.now self.now (entry_told result) }
     {
         self.cells.at(place)
     }
@@ -50,14 +50,14 @@ impl<K: Reckoned> Sheet<K> {
 
     // How many cells have no entry.
     pub(crate) fn free(&self) -> u32
-        ensures { result ≡ left-free (stands self.now) }
+        ensures { result ≡ left_free (stands self.now) }
     {
         self.cells.capacity() - self.cells.count()
     }
 
     // How many cells must be free for one more entry.
     pub(crate) fn wanted(&self) -> u32
-        ensures { result ≡ cells-wanted (is_some self.now.parked) }
+        ensures { result ≡ cells_wanted (is_some self.now.parked) }
     {
         if self.parked.is_some() { 2 } else { 1 }
     }

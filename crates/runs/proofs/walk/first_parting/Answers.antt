@@ -12,12 +12,12 @@ returns-then-number g c =
     let xs = g.A.Run.entries c.args.a.now in
     let ys = g.B.Run.entries c.args.b.now in
     let i = c.loop-i.i in
-    let in-a : i < length xs = omega arith in
+    let in_a : i < length xs = omega arith in
     let in_b : i < length ys = omega arith in
     record {
       in_first = omega arith;
       in_second = omega arith;
-      first = step_on xs i _ _ _ in-a c.entry_of.ensures c.loop-i.invariant.0 c.join-first.ensures;
+      first = step_on xs i _ _ _ in_a c.entry_of.ensures c.loop-i.invariant.0 c.join-first.ensures;
       second = step_on ys i _ _ _ in_b c.entry_of-in-loop-i.ensures c.loop-i.invariant.1 c.join-second.ensures;
       differ = λ e. c.if-number.true (c.number.ensures ∙ ap (λ (s : Steps). zigzag s.value) e ∙ sym c.number-in-loop-i.ensures);
       before = c.loop-i.invariant.2;
@@ -28,9 +28,9 @@ loop-i-preserved g c =
     let xs = g.A.Run.entries c.args.a.now in
     let ys = g.B.Run.entries c.args.b.now in
     let i = c.loop-i.i in
-    let in-a : i < length xs = omega arith in
+    let in_a : i < length xs = omega arith in
     let in_b : i < length ys = omega arith in
-    let first = step_on xs i _ _ _ in-a c.entry_of.ensures c.loop-i.invariant.0 c.join-first.ensures in
+    let first = step_on xs i _ _ _ in_a c.entry_of.ensures c.loop-i.invariant.0 c.join-first.ensures in
     let second = step_on ys i _ _ _ in_b c.entry_of-in-loop-i.ensures c.loop-i.invariant.1 c.join-second.ensures in
     (first, second, still_together xs ys _ _ _ c.loop-i.invariant.2 first second (sym c.number.ensures ∙ c.if-number.false ∙ c.number-in-loop-i.ensures))
 
