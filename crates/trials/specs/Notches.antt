@@ -1,5 +1,6 @@
 -- How notches join: as the numbers modulo 5. Assumes nothing.
 use Rattle.std.specs.Prelude.{ℕ, ◌+◌, ◌-◌, ◌%◌}
+use Rattle.kinds.specs.declared.laws.Reckoned.{Ghosts}
 use Rattle.trials.specs.declared.notch.Notch.{Notch}
 use Rattle.std.proofs.Common.{arith}
 
@@ -14,3 +15,7 @@ both a b = turned (a.value + b.value)
 
 abbrev pub back : Notch → Notch
 back a = turned (5 - a.value)
+
+-- the three together: how notches are reckoned
+abbrev pub reckoned : Ghosts Notch
+reckoned = record { zero = none; join = both; inverse = back }

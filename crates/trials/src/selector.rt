@@ -1,6 +1,6 @@
 //! Notches as a kind: three bits, joining modulo 5. The numbers 5, 6 and 7 denote none.
 ghost use Rattle.trials.specs.Notches.{none, both, back};
-ghost use Rattle.trials.specs.Turning.{same_notches};
+ghost use Rattle.trials.specs.Turning.{notches_group, same_notches};
 ghost use Rattle.std.proofs.Common.{rules};
 
 use crate::notch::Notch;
@@ -49,15 +49,15 @@ impl Reckoned for Notch {
 
     ghost inverse = { back };
 
-    ghost associative = { λ a b c. same_notches _ _ (omega arith) };
+    ghost associative = { notches_group.associative };
 
-    ghost commutative = { λ a b. same_notches _ _ (omega arith) };
+    ghost commutative = { notches_group.commutative };
 
-    ghost left = { λ a. same_notches _ _ (omega (arith, a.known)) };
+    ghost left = { notches_group.left };
 
-    ghost right = { λ a. same_notches _ _ (omega (arith, a.known)) };
+    ghost right = { notches_group.right };
 
-    ghost cancels = { λ a. same_notches _ _ (omega (arith, a.known)) };
+    ghost cancels = { notches_group.cancels };
 
     fn zero() -> Notch {
         Notch::turned(0)
