@@ -2,7 +2,7 @@
 # Entering on a closed sheet is an error of the compiler, which no must-fail edit can show, since it
 # never comes to a proof. This compiles such a program outside the repository and fails unless the
 # compiler refuses it because a closed sheet has no `enter`. The same program on an open sheet must
-# compile, so that nothing else is what was refused. Nothing is proved here.
+# compile and run, so that nothing else is what was refused. Nothing is proved here.
 set -eu
 root=$(cd "$(dirname "$0")/.." && pwd)
 work=$(mktemp -d)

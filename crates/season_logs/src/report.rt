@@ -1,4 +1,4 @@
-//! The lines that `drift` prints.
+//! The lines that `season_drift` prints.
 ghost use Rattle.std.specs.Prelude.{◌≡◌, ◌++◌, IfOk, if◌then◌else◌, string_bytes, codes, decimal};
 ghost use Rattle.std.specs.Fmt.{signed_decimal};
 
