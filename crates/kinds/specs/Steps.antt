@@ -32,4 +32,4 @@ reckoned = record { zero = none; join = both; inverse = back }
 
 -- and how they are numbered: width, kind number and the number of each
 abbrev pub numbering : Kind.Ghosts Steps
-numbering = record { width = 32; code = 2; number = λ s. zigzag s.value }
+numbering = record { WIDTH = 32; CODE = 2; number = λ s. zigzag s.value }

@@ -10,18 +10,20 @@ pub struct Counts {
     ghost fits: { value < 2 ^ 32 },
 }
 
-impl Counts {
-    /// The entry of this value.
-    pub fn new(value: u32) -> Self
-        ensures { result.value ≡ value }
-    {
+/// The entry of a value.
+impl From<u32> for Counts {
+    ghost from_gives = { λ value entry. entry.value ≡ value };
+
+    fn from(value: u32) -> Counts {
         Counts { value }
     }
+}
 
-    /// The value of the entry.
-    pub fn value(self) -> u32
-        ensures { result ≡ self.value }
-    {
-        self.value
+/// The value of an entry.
+impl From<Counts> for u32 {
+    ghost from_gives = { λ entry value. value ≡ entry.value };
+
+    fn from(entry: Counts) -> u32 {
+        entry.value
     }
 }

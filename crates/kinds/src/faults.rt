@@ -1,5 +1,8 @@
 //! The kind faults: eleven codes of four bits. They do not join.
-ghost use Rattle.std.specs.Prelude.{◌≡◌, ◌<◌, ◌≤◌, MatchOption};
+ghost use Rattle.kinds.specs.Refusals.{refusal};
+ghost use Rattle.std.specs.Prelude.{◌≡◌, ◌<◌, ◌≤◌, MatchResult};
+
+use crate::refusal::Refusal;
 
 mod kind;
 
@@ -10,22 +13,26 @@ pub struct Faults {
     ghost known: { value ≤ 10 },
 }
 
-impl Faults {
-    /// The entry of this value; `None` exactly when the value is above 10.
-    pub fn new(value: u8) -> Option<Self>
-        ensures { MatchOption result (10 < value) (λ e. e.value ≡ value) }
-    {
+/// The entry of a code. Refused with 16 exactly when the code is above 10.
+impl TryFrom<u8> for Faults {
+    type Error = Refusal;
+
+    ghost try_from_gives = { λ value told. MatchResult told (λ entry. entry.value ≡ value) (λ f. (10 < value) × (f ≡ refusal 16)) };
+
+    fn try_from(value: u8) -> Result<Faults, Refusal> {
         if value <= 10 {
-            Some(Faults { value })
+            Ok(Faults { value })
         } else {
-            None
+            Err(Refusal::NoSuchEntry)
         }
     }
+}
 
-    /// The value of the entry.
-    pub fn value(self) -> u8
-        ensures { result ≡ self.value }
-    {
-        self.value
+/// The code of an entry.
+impl From<Faults> for u8 {
+    ghost from_gives = { λ entry value. value ≡ entry.value };
+
+    fn from(entry: Faults) -> u8 {
+        entry.value
     }
 }

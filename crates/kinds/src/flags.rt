@@ -10,18 +10,20 @@ pub struct Flags {
     ghost fits: { value < 2 ^ 8 },
 }
 
-impl Flags {
-    /// The entry of this value.
-    pub fn new(value: u8) -> Self
-        ensures { result.value ≡ value }
-    {
+/// The entry of a byte.
+impl From<u8> for Flags {
+    ghost from_gives = { λ value entry. entry.value ≡ value };
+
+    fn from(value: u8) -> Flags {
         Flags { value }
     }
+}
 
-    /// The value of the entry.
-    pub fn value(self) -> u8
-        ensures { result ≡ self.value }
-    {
-        self.value
+/// The byte of an entry.
+impl From<Flags> for u8 {
+    ghost from_gives = { λ entry value. value ≡ entry.value };
+
+    fn from(entry: Flags) -> u8 {
+        entry.value
     }
 }

@@ -12,22 +12,14 @@ pub trait Kind: Copy {
     /// The number by which this kind is known, 0 to 255.
     const CODE: u8;
 
-    // how many bits a number has
-    ghost width: { ℕ };
+    // how many bits a number has: the constant of that name, as a contract cites it
+    ghost WIDTH: { ℕ };
 
-    // the kind number
-    ghost code: { ℕ };
+    // the kind number: the constant of that name, as a contract cites it
+    ghost CODE: { ℕ };
 
     // the number of an entry
     ghost number: { Self → ℕ };
-
-    /// `WIDTH`, as a value that a contract can name.
-    fn bits() -> u32
-        ensures { result ≡ width };
-
-    /// `CODE`, as a value that a contract can name.
-    fn kind_number() -> u8
-        ensures { result ≡ code };
 
     /// The number of this entry.
     fn number(self) -> u32
@@ -37,11 +29,11 @@ pub trait Kind: Copy {
     fn from_number(n: u32) -> Option<Self>
         ensures { MatchOption result ((e : Self) → number e ≢ n) (λ e. number e ≡ n) };
 
-    ghost narrow: { (1 ≤ width) × (width ≤ 32) };
+    ghost narrow: { (1 ≤ WIDTH) × (WIDTH ≤ 32) };
 
-    ghost coded: { code < 256 };
+    ghost coded: { CODE < 256 };
 
-    ghost fits: { (e : Self) → number e < 2 ^ width };
+    ghost fits: { (e : Self) → number e < 2 ^ WIDTH };
 
     ghost distinct: { (d e : Self) → number d ≡ number e → d ≡ e };
 }

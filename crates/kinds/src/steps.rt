@@ -12,18 +12,20 @@ pub struct Steps {
     ghost fits: { mag value < 2 ^ 31 },
 }
 
-impl Steps {
-    /// The entry of this value.
-    pub fn new(value: i32) -> Self
-        ensures { result.value ≡ value }
-    {
+/// The drive of so many steps.
+impl From<i32> for Steps {
+    ghost from_gives = { λ value entry. entry.value ≡ value };
+
+    fn from(value: i32) -> Steps {
         Steps { value }
     }
+}
 
-    /// The value of the entry.
-    pub fn value(self) -> i32
-        ensures { result ≡ self.value }
-    {
-        self.value
+/// How many steps a drive has.
+impl From<Steps> for i32 {
+    ghost from_gives = { λ entry value. value ≡ entry.value };
+
+    fn from(entry: Steps) -> i32 {
+        entry.value
     }
 }

@@ -11,9 +11,9 @@ impl Kind for Notch {
 
     const CODE: u8 = 200;
 
-    ghost width = { 3 };
+    ghost WIDTH = { 3 };
 
-    ghost code = { 200 };
+    ghost CODE = { 200 };
 
     ghost number = { λ e. e.value };
 
@@ -24,14 +24,6 @@ impl Kind for Notch {
     ghost fits = { Prim.search rules };
 
     ghost distinct = { same_notches };
-
-    fn bits() -> u32 {
-        Self::WIDTH
-    }
-
-    fn kind_number() -> u8 {
-        Self::CODE
-    }
 
     fn number(self) -> u32 {
         u32::from(self.value())

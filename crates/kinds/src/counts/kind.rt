@@ -12,9 +12,9 @@ impl Kind for Counts {
 
     const CODE: u8 = 1;
 
-    ghost width = { width_of counts };
+    ghost WIDTH = { width_of counts };
 
-    ghost code = { code_of counts };
+    ghost CODE = { code_of counts };
 
     ghost number = { λ e. e.value };
 
@@ -26,20 +26,12 @@ impl Kind for Counts {
 
     ghost distinct = { same_counts };
 
-    fn bits() -> u32 {
-        Self::WIDTH
-    }
-
-    fn kind_number() -> u8 {
-        Self::CODE
-    }
-
     fn number(self) -> u32 {
-        self.value()
+        self.value
     }
 
     fn from_number(n: u32) -> Option<Counts> {
-        Some(Counts::new(n))
+        Some(Counts::from(n))
     }
 }
 
@@ -61,14 +53,14 @@ impl Reckoned for Counts {
     ghost cancels = { counts_group.cancels };
 
     fn zero() -> Counts {
-        Counts::new(0)
+        Counts::from(0)
     }
 
     fn join(self, other: Counts) -> Counts {
-        Counts::new(self.value().wrapping_add(other.value()))
+        Counts::from(self.value.wrapping_add(other.value))
     }
 
     fn inverse(self) -> Counts {
-        Counts::new(self.value().wrapping_neg())
+        Counts::from(self.value.wrapping_neg())
     }
 }

@@ -11,9 +11,9 @@ impl Kind for Faults {
 
     const CODE: u8 = 4;
 
-    ghost width = { width_of faults };
+    ghost WIDTH = { width_of faults };
 
-    ghost code = { code_of faults };
+    ghost CODE = { code_of faults };
 
     ghost number = { λ e. e.value };
 
@@ -25,19 +25,11 @@ impl Kind for Faults {
 
     ghost distinct = { same_faults };
 
-    fn bits() -> u32 {
-        Self::WIDTH
-    }
-
-    fn kind_number() -> u8 {
-        Self::CODE
-    }
-
     fn number(self) -> u32 {
-        u32::from(self.value())
+        u32::from(self.value)
     }
 
     fn from_number(n: u32) -> Option<Faults> {
-        if n <= 10 { Faults::new(n as u8) } else { None }
+        Faults::try_from(u8::try_from(n).ok()?).ok()
     }
 }

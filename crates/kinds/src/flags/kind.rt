@@ -12,9 +12,9 @@ impl Kind for Flags {
 
     const CODE: u8 = 3;
 
-    ghost width = { width_of flags };
+    ghost WIDTH = { width_of flags };
 
-    ghost code = { code_of flags };
+    ghost CODE = { code_of flags };
 
     ghost number = { λ e. e.value };
 
@@ -26,23 +26,12 @@ impl Kind for Flags {
 
     ghost distinct = { same_flags };
 
-    fn bits() -> u32 {
-        Self::WIDTH
-    }
-
-    fn kind_number() -> u8 {
-        Self::CODE
-    }
-
     fn number(self) -> u32 {
-        u32::from(self.value())
+        u32::from(self.value)
     }
 
     fn from_number(n: u32) -> Option<Flags> {
-        match u8::try_from(n) {
-            Ok(value) => Some(Flags::new(value)),
-            Err(_) => None,
-        }
+        u8::try_from(n).ok().map(Flags::from)
     }
 }
 
@@ -64,11 +53,11 @@ impl Reckoned for Flags {
     ghost cancels = { flags_group.cancels };
 
     fn zero() -> Flags {
-        Flags::new(0)
+        Flags::from(0)
     }
 
     fn join(self, other: Flags) -> Flags {
-        Flags::new(self.value() ^ other.value())
+        Flags::from(self.value ^ other.value)
     }
 
     fn inverse(self) -> Flags {

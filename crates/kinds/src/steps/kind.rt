@@ -12,9 +12,9 @@ impl Kind for Steps {
 
     const CODE: u8 = 2;
 
-    ghost width = { width_of steps };
+    ghost WIDTH = { width_of steps };
 
-    ghost code = { code_of steps };
+    ghost CODE = { code_of steps };
 
     ghost number = { λ e. zigzag e.value };
 
@@ -26,29 +26,20 @@ impl Kind for Steps {
 
     ghost distinct = { λ d e h. same_steps d e (zigzag_distinct d.value e.value h) };
 
-    fn bits() -> u32 {
-        Self::WIDTH
-    }
-
-    fn kind_number() -> u8 {
-        Self::CODE
-    }
-
     fn number(self) -> u32 {
-        let s = self.value();
-        if s < 0 {
-            (-(s + 1)) as u32 * 2 + 1
+        if self.value < 0 {
+            (-(self.value + 1)) as u32 * 2 + 1
         } else {
-            s as u32 * 2
+            self.value as u32 * 2
         }
     }
 
     fn from_number(n: u32) -> Option<Steps> {
         let half = (n / 2) as i32;
         if n % 2 == 0 {
-            Some(Steps::new(half))
+            Some(Steps::from(half))
         } else {
-            Some(Steps::new(-half - 1))
+            Some(Steps::from(-half - 1))
         }
     }
 }
@@ -71,14 +62,14 @@ impl Reckoned for Steps {
     ghost cancels = { steps_group.cancels };
 
     fn zero() -> Steps {
-        Steps::new(0)
+        Steps::from(0)
     }
 
     fn join(self, other: Steps) -> Steps {
-        Steps::new(self.value().wrapping_add(other.value()))
+        Steps::from(self.value.wrapping_add(other.value))
     }
 
     fn inverse(self) -> Steps {
-        Steps::new(self.value().wrapping_neg())
+        Steps::from(self.value.wrapping_neg())
     }
 }
