@@ -1,13 +1,16 @@
 -- What reading at a place gives. Assumes nothing.
-use Rattle.std.proofs.Common.{◌≡◌, ℕ, zero, suc, ◌+◌, ◌-◌, ◌^◌, ◌<◌, ◌≤◌, min, ◌⊎◌, List, [], ◌∷◌, ◌++◌, map, length, get_or, take, drop, Ok, Err, Result, sym, refl, ap, ◌∙◌, inl, inr, add-suc, suc-add, zero-add, arith}
+use Rattle.std.proofs.Common.{◌≡◌, ℕ, zero, suc, ◌+◌, ◌-◌, ◌^◌, ◌<◌, ◌≤◌, min, ◌⊎◌, List, [], ◌∷◌, length, get_or, take, drop, Ok, Err, Result, sym, refl, ap, ◌∙◌, inl, inr, add-suc, suc-add, zero-add, arith}
 use Rattle.kinds.specs.declared.refusal.Refusal.{Refusal}
 use Rattle.kinds.specs.declared.refusal.Refusal.TheVariants.{NoPlace}
-use Rattle.runs.specs.Places.{entry_at, cut, part}
-use Rattle.std.proofs.lemmas.List.{get_or-take, get_or_default, map_more, take_all, length-take}
+use Rattle.runs.specs.Places.{entry_at, cut, left, part}
+use Rattle.std.proofs.lemmas.List.{get_or-take, get_or_default, take_all, length-take}
 use Rattle.std.proofs.lemmas.Option.{slice_get_read, slice_get_past}
 use Rattle.std.proofs.lemmas.Bool.{cases_lt}
+use Rattle.std.proofs.Math.Numerals.{suc-eq-add-one}
+use Rattle.std.proofs.Math.Seq.{drop-cons}
 use Rattle.std.specs.List.{slice_get}
 use Rattle.std.specs.Option.{ok_or}
+use Rattle.std.specs.Result.{OkIff, result_unwrap_or}
 
 module _ {K : Type 0} (xs : List K) where
   -- an entry that stands there
@@ -49,6 +52,15 @@ pub entry_next : {K : Type 0} (xs : List K) (i : ℕ) (e : K) → i < length xs 
 entry_next xs i e within is =
     entry_read xs (i + 1) e (omega arith) (omega arith) is ∙ ap (λ j. get_or xs j e) (omega arith)
 
+-- what is left of a run begins with the next entry
+pub left_next : {K : Type 0} (xs : List K) (i : ℕ) → i < length xs → (e : K) × (entry_at xs (i + 1) ≡ Ok e) × (left xs i ≡ e ∷ left xs (i + 1))
+left_next [] i within = absurd (omega arith)
+left_next (x ∷ xs) i within =
+    let d = get_or (x ∷ xs) i x in
+    let here : i ≡ i + 1 - 1 = omega arith in
+    let read : d ≡ get_or (x ∷ xs) (i + 1 - 1) d = get_or_default (x ∷ xs) i x d within ∙ ap (λ j. get_or (x ∷ xs) j d) here in
+    (d, entry_there (x ∷ xs) (i + 1) d (omega arith) (omega arith) read, drop-cons (x ∷ xs) i x within ∙ ap (λ j. d ∷ drop j (x ∷ xs)) (suc-eq-add-one i))
+
 -- within the run no place is refused
 pub entry_given : {K : Type 0} (xs : List K) (p : ℕ) (f : Refusal) → 0 < p → p ≤ length xs → entry_at xs p ≡ Err f → ⊥
 entry_given [] p f pos within is = omega arith
@@ -85,17 +97,18 @@ pub length_cut : {K : Type 0} (xs : List K) → length (cut xs) ≡ min 4_294_96
 unfolding cut
 length_cut xs = length-take 4_294_967_295 xs
 
+-- as many as fit 32 bits
+pub count_cut : {E : Type 0} (r : Result ℕ E) (n : ℕ) → OkIff r (n < 2 ^ 32) n → result_unwrap_or r 4_294_967_295 ≡ min 4_294_967_295 n
+count_cut (Ok x) n is = omega (arith, is.0, is.1)
+count_cut (Err e) n large = go (cases_lt n (2 ^ 32))
+  where
+    go : (n < 2 ^ 32) ⊎ (2 ^ 32 ≤ n) → 4_294_967_295 ≡ min 4_294_967_295 n
+    go (inl few) = absurd (large few)
+    go (inr many) = omega arith
+
 pub get_or_cut : {K : Type 0} (xs : List K) (i : ℕ) (d : K) → i < 4_294_967_295 → get_or (cut xs) i d ≡ get_or xs i d
 unfolding cut
 get_or_cut xs i d h = get_or-take 4_294_967_295 xs i d h
-
--- the number of one entry more
-pub number_next : {K : Type 0} (number : K → ℕ) (xs : List K) (i : ℕ) (e : K) (before : List ℕ) (n : ℕ) {after : List ℕ} → i < length xs → entry_at xs (i + 1) ≡ Ok e → n ≡ number e → before ≡ map number (take i xs) → after ≡ before ++ (n ∷ []) → after ≡ map number (take (i + 1) xs)
-number_next number xs i e before n within is named so pushed =
-    pushed
-    ∙ ap (λ l. l ++ (n ∷ [])) so
-    ∙ ap (λ m. map number (take i xs) ++ (m ∷ [])) (named ∙ ap number (entry_next xs i e within is))
-    ∙ sym (map_more number xs i e within)
 
 -- where an entry is answered, the place lies within the run
 pub entry_within : {K : Type 0} (xs : List K) (p : ℕ) (e : K) → entry_at xs p ≡ Ok e → (0 < p) × (p ≤ length xs)

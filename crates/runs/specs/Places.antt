@@ -15,6 +15,10 @@ cut xs = take 4_294_967_295 xs
 abbrev pub part : {K : Type 0} → List K → ℕ → ℕ → List K
 part xs a m = take m (drop a xs)
 
+-- what is left of a run after its first so many entries
+abbrev pub left : {K : Type 0} → List K → ℕ → List K
+left xs n = drop n xs
+
 -- what a run answers of a place: places count from 1, and where no entry stands it is refused with 1
 unfoldable pub entry_at : {K : Type 0} → List K → ℕ → Result K Refusal
 entry_at xs zero = Err (refusal 1)

@@ -4,7 +4,7 @@ ghost use Rattle.runs.specs.Places.{part};
 ghost use Rattle.std.specs.Prelude.{◌≡◌};
 
 use crate::meaning::Run;
-use crate::reading::is_outside;
+use crate::place::Place;
 use kinds::Refusal;
 
 /// The run below without its first `skipped` entries, and of the rest the first `most`, or all if
@@ -44,9 +44,7 @@ impl<R: Run> Run for Excerpt<R> {
     }
 
     fn at(&self, place: u32) -> Result<R::Entry, Refusal> {
-        if is_outside(place, self.count()) {
-            return Err(Refusal::NoPlace);
-        }
-        self.below.at(self.skipped + place)
+        let place = Place::among(place, self.count())?;
+        self.below.at(self.skipped + place.number)
     }
 }

@@ -3,7 +3,7 @@ ghost use Rattle.runs.specs.Few.{cut_few};
 ghost use Rattle.runs.specs.Places.{cut};
 
 use crate::meaning::Run;
-use crate::reading::is_outside;
+use crate::place::Place;
 use kinds::{Kind, Refusal};
 
 /// A lent table of entries, cut to its first 4,294,967,295.
@@ -15,17 +15,12 @@ impl<'a, K: Kind> Run for &'a [K] {
     ghost few = { λ s. cut_few s.now };
 
     fn count(&self) -> u32 {
-        match u32::try_from(self.len()) {
-            Ok(n) => n,
-            Err(_) => u32::MAX,
-        }
+        u32::try_from(self.len()).unwrap_or(u32::MAX)
     }
 
     fn at(&self, place: u32) -> Result<K, Refusal> {
+        let place = Place::among(place, self.count())?;
         let table = *self;
-        if is_outside(place, self.count()) {
-            return Err(Refusal::NoPlace);
-        }
-        Ok(table[place as usize - 1])
+        Ok(table[place.index()])
     }
 }

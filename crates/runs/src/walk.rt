@@ -1,12 +1,12 @@
 //! Totals and positions of runs.
 ghost use Rattle.runs.specs.Places.{total_at};
 ghost use Rattle.runs.specs.Positions.{Parts, position_at};
-ghost use Rattle.std.specs.Prelude.{◌≡◌, ◌-ℤ◌};
+ghost use Rattle.std.specs.Prelude.{◌≡◌};
 
+use crate::iter::Iter;
 use crate::meaning::Run;
 use crate::parting::Parting;
-use crate::reading::entry_of;
-use kinds::{Kind, Reckoned, Refusal, Steps};
+use kinds::{Reckoned, Refusal, Steps};
 
 /// The join of the first `i` entries of `run`, zero for none. Refused with 1 exactly when `i` is
 /// above the count.
@@ -19,8 +19,8 @@ where
         return Err(Refusal::NoPlace);
     }
     let mut sum = <R::Entry>::zero();
-    for k in 0..i {
-        sum = sum.join(entry_of(run, k + 1));
+    for entry in Iter::over(run).take(i as usize) {
+        sum = sum.join(entry);
     }
     Ok(sum)
 }
@@ -40,25 +40,16 @@ pub fn first_parting<A: Run<Entry = Steps>, B: Run<Entry = Steps>>(a: &A, b: &B)
 {
     let mut first = Steps::zero();
     let mut second = Steps::zero();
-    for i in 0..a.count().min(b.count()) {
-        first = first.join(entry_of(a, i + 1));
-        second = second.join(entry_of(b, i + 1));
-        if first.number() != second.number() {
+    for (i, (one, other)) in Iter::over(a).zip(Iter::over(b)).enumerate() {
+        first = first.join(one);
+        second = second.join(other);
+        if first != second {
             return Some(Parting {
-                after: i + 1,
+                after: i as u32 + 1,
                 first,
                 second,
             });
         }
     }
     None
-}
-
-impl Parting {
-    /// By how many steps the first run stands above the second, counted exactly.
-    pub fn gap(self) -> i64
-        ensures { result ≡ self.first.value -ℤ self.second.value }
-    {
-        i64::from(self.first.value()) - i64::from(self.second.value())
-    }
 }

@@ -1,24 +1,26 @@
 use Rattle.runs.proofs.Placed.{entry_outside, entry_there, length_cut, get_or_cut}
 use Rattle.runs.proofs.table.RefSliceRun.at.Goals as goal
 use Rattle.runs.specs.Places.{cut}
-use Rattle.std.proofs.Common.{sym, ◌∙◌, arith}
+use Rattle.std.proofs.Common.{◌≡◌, ◌-◌, get_or, sym, ◌∙◌, ap, arith}
+use Rattle.std.proofs.lemmas.Result.{err_from_is_err_and}
 
-pub returns-then-is_outside : goal.returns-then-is_outside
-returns-then-is_outside g c = sym (entry_outside _ c.args.place c.count.result c.count.ensures c.if-is_outside.ensures)
+pub returns-in_err-place : goal.returns-in_err-place
+returns-in_err-place g c =
+    let p = err_from_is_err_and c.from_residual.result c.from_residual.ensures.1 in
+    rw (p.1, p.2, c.in_err-place.ensures.0) (sym (entry_outside _ c.args.place c.count.result c.count.ensures c.in_err-place.ensures.1))
 
 pub returns : goal.returns
 returns g c =
     let t = c.args.self.now.now in
-    let e = c.index-table-place.result in
-    let within = c.if-is_outside.ensures in
-    sym (entry_there (cut t) c.args.place e within.0 (omega (arith, within.1, c.count.ensures))
-    (c.index-table-place.is ∙ sym (get_or_cut t _ e (omega (arith, c.ranges.place.fits)))))
+    let e = c.index-table-index.result in
+    let p = c.in_ok-place.place in
+    let within = c.in_ok-place.ensures in
+    let at : c.index.result ≡ c.args.place - 1 = omega (arith, within.0, c.index.ensures) in
+    sym (entry_there (cut t) c.args.place e (omega (arith, p.from_one, within.0)) (omega (arith, within.1, c.count.ensures))
+    (c.index-table-index.is ∙ ap (λ i. get_or t i e) at ∙ sym (get_or_cut t _ e (omega (arith, c.ranges.place.fits, p.from_one, within.0)))))
 
--- the place lies within the table, as it lies within the count
-pub offset_bounds-table-place : goal.offset_bounds-table-place
-offset_bounds-table-place g c =
-    omega (arith, c.if-is_outside.ensures.1, c.count.ensures, length_cut c.args.self.now.now)
+pub offset_bounds-table-index : goal.offset_bounds-table-index
+offset_bounds-table-index g c = omega (arith, c.in_ok-place.ensures, c.index.ensures, c.count.ensures, length_cut c.args.self.now.now)
 
-pub bounds-table-place : goal.bounds-table-place
-bounds-table-place g c =
-    omega (arith, c.if-is_outside.ensures.0, c.if-is_outside.ensures.1, c.count.ensures, length_cut c.args.self.now.now)
+pub bounds-table-index : goal.bounds-table-index
+bounds-table-index g c = omega (arith, c.in_ok-place.ensures, c.index.ensures, c.count.ensures, length_cut c.args.self.now.now)

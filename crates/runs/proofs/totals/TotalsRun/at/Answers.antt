@@ -1,5 +1,5 @@
 use Rattle.runs.proofs.Placed.{cut_all}
-use Rattle.runs.proofs.layer.TotalsRun.at.Goals as goal
+use Rattle.runs.proofs.totals.TotalsRun.at.Goals as goal
 use Rattle.runs.specs.Places.{entry_at}
 use Rattle.std.proofs.Common.{ap, ◌∙◌, arith}
 
