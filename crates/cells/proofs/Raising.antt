@@ -35,6 +35,12 @@ module _ {K : Type 0} (R : Ghosts K) where
       ap (λ c. R.join c (R.inverse (besides R new j))) (same j (omega arith) (omega arith))
       ∙ ap (λ b. R.join (cell R old j) (R.inverse b)) (besides_same old new j (omega arith) (omega arith) (λ i p h. same i p (omega arith))))
 
+  -- so the first n cells alone stand for the first n entries
+  pub decoded_front : (cells : List K) (n : ℕ) → n < 2 ^ 32 → n ≤ length cells → decoded R (take n cells) (length (take n cells)) ≡ decoded R cells n
+  decoded_front cells n few within =
+      let long : length (take n cells) ≡ n = omega (arith, length-take n cells) in
+      ap (decoded R (take n cells)) long ∙ decoded_same cells (take n cells) n few (λ i pos last. get_or-take n cells (i - 1) R.zero (omega arith))
+
   module _ (laws : Group R) where
     -- one entry more: the next cell joins it to what it has besides
     pub decoded_push : (old new : List K) (n : ℕ) (e : K) → n + 1 < 2 ^ 32 → ((i : ℕ) → 0 < i → i ≤ n → cell R new i ≡ cell R old i) → cell R new (n + 1) ≡ R.join (besides R old (n + 1)) e → decoded R new (n + 1) ≡ decoded R old n ++ (e ∷ [])

@@ -8,6 +8,7 @@ ghost use Rattle.runs.specs.Places.{entry_at};
 use crate::table::Cells;
 use crate::walk::{others, raise};
 use kinds::{Reckoned, Refusal};
+use runs::Place;
 
 impl<K: Reckoned> Cells<K> {
     /// Adds an entry at the end and answers the new count. Refused with 2 exactly when every cell
@@ -20,11 +21,13 @@ impl<K: Reckoned> Cells<K> {
         if self.count >= self.capacity() {
             return Err(Refusal::NoCells);
         }
-        let place = self.count + 1;
+        let place = Place {
+            number: self.count + 1,
+        };
         let cell = others(self.table.as_slice(), place).join(entry);
         self.table[self.count as usize] = cell;
-        self.count = place;
-        Ok(place)
+        self.count = place.number;
+        Ok(place.number)
     }
 
     /// Removes the last entry and answers it; its cell is set to zero. Refused with 3 exactly when
@@ -38,7 +41,7 @@ impl<K: Reckoned> Cells<K> {
         if self.count == 0 {
             return Err(Refusal::NothingToStrike);
         }
-        let last = self.entry(self.count);
+        let last = self.entry(Place { number: self.count });
         self.count -= 1;
         self.table[self.count as usize] = K::zero();
         Ok(last)
@@ -52,7 +55,8 @@ impl<K: Reckoned> Cells<K> {
         ensures refuses { (f : Refused) → entry_at (written K.Reckoned.own self.old) place ≡ Err f → (result ≡ Err f) × (self.new ≡ self.old) }
         ensures table { SameTable K.Reckoned.own self.old self.new }
     {
-        let entry = self.at(place)?;
+        let place = Place::among(place, self.count)?;
+        let entry = self.entry(place);
         self.raise_at(place, amount);
         Ok(entry.join(amount))
     }
@@ -65,17 +69,17 @@ impl<K: Reckoned> Cells<K> {
         ensures refuses { (f : Refused) → entry_at (written K.Reckoned.own self.old) place ≡ Err f → (result ≡ Err f) × (self.new ≡ self.old) }
         ensures table { SameTable K.Reckoned.own self.old self.new }
     {
-        let old = self.at(place)?;
+        let place = Place::among(place, self.count)?;
+        let old = self.entry(place);
         self.raise_at(place, entry.join(old.inverse()));
         Ok(old)
     }
 
     // Joins an amount to the entry at a place that there is.
-    fn raise_at(&mut self, place: u32, amount: K)
-        requires first { 0 < place }
-        requires last { place ≤ self.old.count }
+    fn raise_at(&mut self, place: Place, amount: K)
+        requires { place.number ≤ self.old.count }
         ensures counts { self.new.count ≡ self.old.count }
-        ensures joins { (e : K) → entry_at (written K.Reckoned.own self.old) place ≡ Ok e → written K.Reckoned.own self.new ≡ slice_set (written K.Reckoned.own self.old) (place - 1) (K.join e amount) }
+        ensures joins { (e : K) → entry_at (written K.Reckoned.own self.old) place.number ≡ Ok e → written K.Reckoned.own self.new ≡ slice_set (written K.Reckoned.own self.old) (place.number - 1) (K.join e amount) }
         ensures table { SameTable K.Reckoned.own self.old self.new }
     {
         let count = self.count;

@@ -7,7 +7,7 @@ ghost use Rattle.runs.specs.Places.{entry_at, total_at};
 use crate::table::Cells;
 use crate::walk::{cell_of, joined, others};
 use kinds::{Reckoned, Refusal};
-use runs::is_outside;
+use runs::Place;
 
 impl<K: Reckoned> Cells<K> {
     /// How many entries there are.
@@ -36,17 +36,14 @@ impl<K: Reckoned> Cells<K> {
     pub fn at(&self, place: u32) -> Result<K, Refusal>
         ensures { result ≡ entry_at (written K.Reckoned.own self.now) place }
     {
-        if is_outside(place, self.count) {
-            return Err(Refusal::NoPlace);
-        }
+        let place = Place::among(place, self.count)?;
         Ok(self.entry(place))
     }
 
     // The entry at a place that there is.
-    pub(crate) fn entry(&self, place: u32) -> K
-        requires first { 0 < place }
-        requires last { place ≤ self.now.count }
-        ensures { entry_at (written K.Reckoned.own self.now) place ≡ Ok result }
+    pub(crate) fn entry(&self, place: Place) -> K
+        requires { place.number ≤ self.now.count }
+        ensures { entry_at (written K.Reckoned.own self.now) place.number ≡ Ok result }
     {
         let cells = self.table.as_slice();
         cell_of(cells, place).join(others(cells, place).inverse())
@@ -60,13 +57,13 @@ impl<K: Reckoned> Cells<K> {
         if i > self.count {
             return Err(Refusal::NoPlace);
         }
-        Ok(joined(self.table.as_slice(), i))
+        Ok(joined(&self.table[..i as usize]))
     }
 
     /// The join of all entries.
     pub fn sum(&self) -> K
         ensures { result ≡ total K.Reckoned.own (written K.Reckoned.own self.now) }
     {
-        joined(self.table.as_slice(), self.count)
+        joined(&self.table[..self.count as usize])
     }
 }

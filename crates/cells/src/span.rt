@@ -2,6 +2,8 @@
 ghost use Rattle.std.specs.Prelude.{◌≡◌, ◌^◌, ◌<◌};
 ghost use Rattle.cells.specs.Spans.{span as reach};
 
+use runs::Place;
+
 // A power of two.
 pub(crate) fn power(exponent: u32) -> u32
     requires { exponent < 32 }
@@ -11,9 +13,8 @@ pub(crate) fn power(exponent: u32) -> u32
 }
 
 // The largest power of two that divides a place.
-pub(crate) fn span(place: u32) -> u32
-    requires { 0 < place }
-    ensures { result ≡ reach place }
+pub(crate) fn span(place: Place) -> u32
+    ensures { result ≡ reach place.number }
 {
-    power(place.trailing_zeros())
+    power(place.number.trailing_zeros())
 }

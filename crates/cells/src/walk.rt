@@ -1,59 +1,62 @@
 //! Walks over the cells.
-ghost use Rattle.std.specs.Prelude.{◌≡◌, ◌-◌, ◌<◌, ◌≤◌, ◌++◌, length, drop, replicate};
+ghost use Rattle.std.specs.Prelude.{◌≡◌, ◌-◌, ◌^◌, ◌<◌, ◌≤◌, ◌++◌, drop, length, replicate};
 ghost use Rattle.cells.specs.Cells.{Raised, besides, cell, decoded};
 ghost use Rattle.kinds.specs.Totals.{total};
 
 use crate::span::{power, span};
 use kinds::Reckoned;
+use runs::Place;
 
 // The cell of a place.
-pub(crate) fn cell_of<K: Reckoned>(cells: &[K], place: u32) -> K
-    requires first { 0 < place }
-    requires last { place ≤ length cells.now }
-    ensures { result ≡ cell K.Reckoned.own cells.now place }
+pub(crate) fn cell_of<K: Reckoned>(cells: &[K], place: Place) -> K
+    requires { place.number ≤ length cells.now }
+    ensures { result ≡ cell K.Reckoned.own cells.now place.number }
 {
-    cells[place as usize - 1]
+    cells[place.index()]
 }
 
 // What the cell of a place holds, or is to hold, besides the entry there.
-pub(crate) fn others<K: Reckoned>(cells: &[K], place: u32) -> K
-    requires first { 0 < place }
-    requires last { place - 1 ≤ length cells.now }
-    ensures { result ≡ besides K.Reckoned.own cells.now place }
+pub(crate) fn others<K: Reckoned>(cells: &[K], place: Place) -> K
+    requires { place.number - 1 ≤ length cells.now }
+    ensures { result ≡ besides K.Reckoned.own cells.now place.number }
 {
     let mut sum = K::zero();
-    for t in 0..place.trailing_zeros() {
-        sum = sum.join(cell_of(cells, place - power(t)));
+    for t in 0..place.number.trailing_zeros() {
+        let before = Place {
+            number: place.number - power(t),
+        };
+        sum = sum.join(cell_of(cells, before));
     }
     sum
 }
 
-// The join of the first so many entries.
-pub(crate) fn joined<K: Reckoned>(cells: &[K], count: u32) -> K
-    requires { count ≤ length cells.now }
-    ensures { result ≡ total K.Reckoned.own (decoded K.Reckoned.own cells.now count) }
+// The join of all the entries that the cells stand for.
+pub(crate) fn joined<K: Reckoned>(cells: &[K]) -> K
+    requires { length cells.now < 2 ^ 32 }
+    ensures { result ≡ total K.Reckoned.own (decoded K.Reckoned.own cells.now (length cells.now)) }
 {
     let mut sum = K::zero();
-    let mut place = count;
-    while place > 0 {
+    let mut left = cells.len() as u32;
+    while left > 0 {
+        let place = Place { number: left };
         sum = cell_of(cells, place).join(sum);
-        place -= span(place);
+        left -= span(place);
     }
     sum
 }
 
-// Joins an amount to each cell that has the entry of a place.
-pub(crate) fn raise<K: Reckoned>(cells: &mut [K], count: u32, place: u32, amount: K)
-    requires first { 0 < place }
+// Joins an amount to each cell that has the entry of a place, of the first so many. The cells are the
+// whole table and not a slice cut to those: what is past them is in the promise too.
+pub(crate) fn raise<K: Reckoned>(cells: &mut [K], count: u32, place: Place, amount: K)
     requires last { count ≤ length cells.old }
     requires few { count ≤ 1_048_576 }
-    ensures { Raised K.Reckoned.own cells.old cells.new count place amount }
+    ensures { Raised K.Reckoned.own cells.old cells.new count place.number amount }
 {
-    let mut above = place;
+    let mut above = place.number;
     while above <= count {
-        let raised = cell_of(cells, above).join(amount);
-        cells[above as usize - 1] = raised;
-        above += span(above);
+        let having = Place { number: above };
+        cells[having.index()] = cell_of(cells, having).join(amount);
+        above += span(having);
     }
 }
 
@@ -62,7 +65,7 @@ pub(crate) fn clear<K: Reckoned>(cells: &mut [K], count: usize)
     requires { count ≤ length cells.old }
     ensures { cells.new ≡ replicate count K.zero ++ drop count cells.old }
 {
-    for i in 0..count {
-        cells[i] = K::zero();
+    for cell in &mut cells[..count] {
+        *cell = K::zero();
     }
 }

@@ -1,6 +1,6 @@
 //! Places of entries.
 ghost use Rattle.kinds.specs.Refusals.{refusal};
-ghost use Rattle.std.specs.Prelude.{◌≡◌, ◌+◌, ◌<◌, ◌≤◌, ◌⊎◌, MatchResult};
+ghost use Rattle.std.specs.Prelude.{◌≡◌, ◌+◌, ◌^◌, ◌<◌, ◌≤◌, ◌⊎◌, MatchResult};
 
 use kinds::Refusal;
 
@@ -10,6 +10,7 @@ pub struct Place {
     /// The place, as a number.
     pub number: u32,
     pub ghost from_one: { 0 < number },
+    pub ghost fits: { number < 2 ^ 32 },
 }
 
 impl Place {

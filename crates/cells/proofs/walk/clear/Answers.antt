@@ -1,6 +1,7 @@
-use Rattle.std.proofs.Common.{arith}
 use Rattle.cells.proofs.Clearing.{cleared_more}
 use Rattle.cells.proofs.walk.clear.Goals as goal
+use Rattle.std.proofs.Common.{take, arith}
 
-pub loop-i-preserved : goal.loop-i-preserved
-loop-i-preserved g c = cleared_more g.K.Reckoned.zero c.args.cells.now c.loop-i.cells c.loop-i.i _ (omega arith) c.zero.ensures c.loop-i.invariant
+pub loop-cell-preserved : goal.loop-cell-preserved
+loop-cell-preserved g c =
+    cleared_more g.K.Reckoned.zero (take c.args.count c.args.cells.now) c.loop-cell.cell-items c.loop-cell.cell-index _ (omega arith) c.zero.ensures c.loop-cell.invariant

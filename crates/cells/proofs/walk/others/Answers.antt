@@ -4,16 +4,19 @@ use Rattle.cells.proofs.walk.others.Goals as goal
 use Rattle.cells.specs.Cells.{cell}
 use Rattle.kinds.proofs.Grouped.{group_of}
 
-pub overflow_sub-place : goal.overflow_sub-place
-overflow_sub-place g c = omega (arith, power_within c.args.place c.loop-t.t c.requires.first c.ranges.place.fits c.loop-t-test.true)
+pub overflow_sub-before : goal.overflow_sub-before
+overflow_sub-before g c = omega (arith, power_within c.args.place.number c.loop-t.t c.args.place.from_one c.args.place.fits c.loop-t-test.true)
+
+pub invariant_of-before : goal.invariant_of-before
+invariant_of-before g c =
+    let h = power_within c.args.place.number c.loop-t.t c.args.place.from_one c.args.place.fits c.loop-t-test.true in
+    record { from_one = omega (arith, h, c.power.ensures); fits = omega (arith, c.args.place.fits) }
 
 pub cell_of-requires : goal.cell_of-requires
-cell_of-requires g c =
-    let h = power_within c.args.place c.loop-t.t c.requires.first c.ranges.place.fits c.loop-t-test.true in
-    record { first = omega arith; last = omega (arith, pow_pos c.loop-t.t) }
+cell_of-requires g c = omega (arith, c.power.ensures, pow_pos c.loop-t.t)
 
 pub loop-t-preserved : goal.loop-t-preserved
 loop-t-preserved g c =
     c.join-sum.ensures
-    ∙ besides_more g.K.Reckoned (group_of g.met.K.Reckoned) c.args.cells.now c.args.place c.loop-t.t _ _ c.loop-t.invariant
-    (c.cell_of.ensures ∙ ap (λ p. cell g.K.Reckoned c.args.cells.now (c.args.place - p)) c.power.ensures)
+    ∙ besides_more g.K.Reckoned (group_of g.met.K.Reckoned) c.args.cells.now c.args.place.number c.loop-t.t _ _ c.loop-t.invariant
+    (c.cell_of.ensures ∙ ap (λ p. cell g.K.Reckoned c.args.cells.now (c.args.place.number - p)) c.power.ensures)
