@@ -12,9 +12,8 @@ use Rattle.kinds.specs.declared.refusal.Refusal.{Refusal}
 use Rattle.ledgers.specs.Law.{Law, by_slip, closed_history, history, own_cells}
 use Rattle.ledgers.specs.declared.call.Call as asked
 use Rattle.runs.specs.Places.{part}
-use Rattle.sheets.specs.History.{Call, History, after, after_all, answer, answers, begun, carried, refuses, standing, unless, enter, correct, shift, strike, park, restore, give_up, at, total_of, count}
+use Rattle.sheets.specs.History.{Call, History, after, after_all, answer, answers, begun, carried, refuses, standing, unless, enter, correct, shift, strike, park, restore, give_up, at, total_of, count, Reply}
 use Rattle.sheets.specs.Sheets.{Follows, Keeps, SameBook, cells_of, entries_of}
-use Rattle.sheets.specs.declared.answer.Answer.{Answer}
 use Rattle.sheets.specs.declared.sheet.Sheet.{Sheet}
 use Rattle.std.proofs.lemmas.List.{ext_get_or, get_or-take, length-take}
 use Rattle.std.proofs.lemmas.Bool.{cases_lt}
@@ -123,17 +122,17 @@ module _ {K : Type 0} (R : Reckoned.Ghosts K) where
 
     -- a list of calls follows the history: whatever history the sheet kept before, it keeps the history after them, and
     -- their answers are the history's
-    pub record Followed (u : ℕ) (cs : List (Call K)) (s t : Sheet K) (rs : List (Answer K)) : Type 0 where
+    pub record Followed (u : ℕ) (cs : List (Call K)) (s t : Sheet K) (rs : List (Reply K)) : Type 0 where
       pub unit : t.unit ≡ u
       pub beyond : drop limit (vec_items t.cells.table) ≡ drop limit (vec_items s.cells.table)
       pub follows : (h : History K) → Keeps N R h s → Keeps N R (after_all R h cs) t × (rs ≡ answers R h cs)
 
-    pub followed_none : (u : ℕ) (s : Sheet K) (rs : List (Answer K)) → s.unit ≡ u → rs ≡ [] → Followed u [] s s rs
+    pub followed_none : (u : ℕ) (s : Sheet K) (rs : List (Reply K)) → s.unit ≡ u → rs ≡ [] → Followed u [] s s rs
     unfolding after_all answers
     followed_none u s rs unit none = record { unit = unit; beyond = refl; follows = λ h k. (k, none) }
 
     -- one call more
-    pub followed_more : (u : ℕ) (cs ds : List (Call K)) (c : Call K) (s t v : Sheet K) (rs : List (Answer K)) (a : Answer K) → Followed u cs s t rs → SameBook R t v → Follows N R c t v a → ds ≡ cs ++ (c ∷ []) → Followed u ds s v (rs ++ (a ∷ []))
+    pub followed_more : (u : ℕ) (cs ds : List (Call K)) (c : Call K) (s t v : Sheet K) (rs : List (Reply K)) (a : Reply K) → Followed u cs s t rs → SameBook R t v → Follows N R c t v a → ds ≡ cs ++ (c ∷ []) → Followed u ds s v (rs ++ (a ∷ []))
     followed_more u cs ds c s t v rs a f book step more =
         record {
           unit = book.unit ∙ f.unit;
@@ -147,7 +146,7 @@ module _ {K : Type 0} (R : Reckoned.Ghosts K) where
         }
 
     -- a sheet made, given calls and closed keeps the law
-    pub lawful : (u m : ℕ) (table : List K) (calls : List (asked.Call K)) (s t v : Sheet K) (x : K) (rs : List (Answer K)) → m ≡ length table → Keeps N R (begun R u (own m)) s → drop limit (vec_items s.cells.table) ≡ drop limit table → Followed u (map (by_slip u) calls) s t rs → SameBook R t v → ((h : History K) → Keeps N R h t → Keeps N R (after R h (give_up t.unit)) v) → x ≡ total R (entries_of R v) → Law N R u table calls v x rs
+    pub lawful : (u m : ℕ) (table : List K) (calls : List (asked.Call K)) (s t v : Sheet K) (x : K) (rs : List (Reply K)) → m ≡ length table → Keeps N R (begun R u (own m)) s → drop limit (vec_items s.cells.table) ≡ drop limit table → Followed u (map (by_slip u) calls) s t rs → SameBook R t v → ((h : History K) → Keeps N R h t → Keeps N R (after R h (give_up t.unit)) v) → x ≡ total R (entries_of R v) → Law N R u table calls v x rs
     lawful u m table calls s t v x rs long begins beyond f book closes is =
         let cells : own m ≡ own (length table) = ap own long in
         let first = subst (λ n. Keeps N R (begun R u n) s) cells begins in

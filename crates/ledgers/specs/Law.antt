@@ -6,9 +6,8 @@ use Rattle.kinds.specs.declared.laws.Kind as Kind
 use Rattle.kinds.specs.declared.laws.Reckoned as Reckoned
 use Rattle.ledgers.specs.declared.call.Call as asked
 use Rattle.ledgers.specs.declared.call.Call.TheVariants.{Enter, Correct, Shift, Strike, Park, Restore, GiveUp, At, Total, Count}
-use Rattle.sheets.specs.History.{Call, History, after, after_all, answers, begun, enter, correct, shift, strike, park, restore, give_up, at, total_of, count}
+use Rattle.sheets.specs.History.{Call, History, Reply, after, after_all, answers, begun, enter, correct, shift, strike, park, restore, give_up, at, total_of, count}
 use Rattle.sheets.specs.Sheets.{Keeps, cells_of}
-use Rattle.sheets.specs.declared.answer.Answer.{Answer}
 use Rattle.sheets.specs.declared.sheet.Sheet.{Sheet}
 
 -- a call by the slip then held: the slip of a sheet bears its unit number, and where none is held the sheet is not parked
@@ -29,7 +28,7 @@ abbrev pub history : {K : Type 0} → Reckoned.Ghosts K → ℕ → ℕ → List
 history R unit cells calls = after_all R (begun R unit cells) (map (by_slip unit) calls)
 
 -- what those calls answer
-abbrev pub replies : {K : Type 0} → Reckoned.Ghosts K → ℕ → ℕ → List (asked.Call K) → List (Answer K)
+abbrev pub replies : {K : Type 0} → Reckoned.Ghosts K → ℕ → ℕ → List (asked.Call K) → List (Reply K)
 replies R unit cells calls = answers R (begun R unit cells) (map (by_slip unit) calls)
 
 -- and its history when it is closed at last, a slip still held being given up
@@ -44,7 +43,7 @@ own_cells s = take (cells_of s) (vec_items s.cells.table)
 -- answers: the total is the history's balance; every answer is the history's; the sheet keeps the history, so that every
 -- cell holds what its place asks for; and any sheet that keeps a history with equal entries and equally many cells differs
 -- in no cell
-pub record Law {K : Type 0} (N : Kind.Ghosts K) (R : Reckoned.Ghosts K) (unit : ℕ) (table : List K) (calls : List (asked.Call K)) (s : Sheet K) (t : K) (rs : List (Answer K)) : Type 0 where
+pub record Law {K : Type 0} (N : Kind.Ghosts K) (R : Reckoned.Ghosts K) (unit : ℕ) (table : List K) (calls : List (asked.Call K)) (s : Sheet K) (t : K) (rs : List (Reply K)) : Type 0 where
   pub total_of_entries : t ≡ total R (closed_history R unit (own (length table)) calls).entries
   pub total_follows_history : t ≡ (closed_history R unit (own (length table)) calls).balance
   pub answers_follow_history : rs ≡ replies R unit (own (length table)) calls

@@ -12,8 +12,8 @@ fn same_cells<K: Reckoned>(cells: &[K], others: &[K], count: usize) -> bool
     requires second { count ≤ length others.now }
     ensures { MatchBool result ((k : ℕ) → k < count → slice_index_or cells.now k K.zero ≡ slice_index_or others.now k K.zero) ((k : ℕ) × (k < count) × (slice_index_or cells.now k K.zero ≢ slice_index_or others.now k K.zero)) }
 {
-    for i in 0..count {
-        if cells[i].number() != others[i].number() {
+    for (cell, other) in cells[..count].iter().zip(&others[..count]) {
+        if cell.number() != other.number() {
             return false;
         }
     }

@@ -1,16 +1,38 @@
 //! Keeping a ledger.
-ghost use Rattle.std.specs.Prelude.{◌≡◌, ◌+◌, drop, vec_len, MatchResult};
+ghost use Rattle.std.specs.Prelude.{◌≡◌, ◌+◌, drop, vec_len, MatchResult, Some as Held, None as Nothing};
 ghost use Rattle.cells.specs.Cells.{limit, own};
 ghost use Rattle.ledgers.specs.Holding.{slip_kept};
 ghost use Rattle.ledgers.specs.Unchanged.{Unchanged};
 ghost use Rattle.sheets.specs.History.{begun, correct as ask_correct, enter as ask_enter, give_up, park as ask_park, refuses, restore as ask_restore, shift as ask_shift, strike as ask_strike};
-ghost use Rattle.sheets.specs.Sheets.{Follows, Keeps, SameBook, entry_told, number_told, stands};
+ghost use Rattle.sheets.specs.Sheets.{Follows, Keeps, SameBook, entry_told, number_told, stands, without_slip};
 ghost use Rattle.std.specs.Result.{result_err};
 
-use crate::holding;
 use crate::ledger::Ledger;
 use kinds::{Kind, Reckoned, Refusal};
-use sheets::Sheet;
+use sheets::{HandedBack, Sheet, Slip};
+
+// Holds a slip where none is held.
+fn hold(held: &mut Option<Slip>, slip: Slip)
+    requires { held.old ≡ Nothing }
+    ensures { held.new ≡ Held slip }
+{
+    *held = Some(slip);
+}
+
+// The answer of a sheet that was handed a slip, the slip being held again where it is handed back.
+fn held_again(held: &mut Option<Slip>, told: Result<u32, HandedBack>) -> Result<u32, Refusal>
+    requires { held.old ≡ Nothing }
+    ensures answers { result ≡ without_slip told }
+    ensures holds { MatchResult told (λ _. held.new ≡ Nothing) (λ back. held.new ≡ Held back.slip) }
+{
+    match told {
+        Ok(count) => Ok(count),
+        Err(HandedBack { slip, refusal }) => {
+            hold(held, slip);
+            Err(refusal)
+        }
+    }
+}
 
 impl<K: Reckoned> Ledger<K> {
     /// A ledger of a sheet of no entries, made of `table` as `Sheet::make` says.
@@ -80,7 +102,9 @@ impl<K: Reckoned> Ledger<K> {
         ensures answers { MatchResult result (λ n. n ≡ self.new.sheet.cells.count) (λ _. (self.new.sheet ≡ self.old.sheet) × (self.new.slip ≡ self.old.slip)) }
         ensures follows_history { Follows K.Kind K.Reckoned.own ask_park self.old.sheet self.new.sheet (slip_kept self.old.sheet.unit result) }
     {
-        holding::park(&mut self.sheet, &mut self.slip)
+        let slip = self.sheet.park()?;
+        hold(&mut self.slip, slip);
+        Ok(self.sheet.count())
     }
 
     /// Restores by the slip that is held and answers the new count. Refused with 5 exactly when no
@@ -91,7 +115,9 @@ impl<K: Reckoned> Ledger<K> {
         ensures answers { MatchResult result (λ n. n ≡ self.old.sheet.cells.count + 1) (λ _. (self.new.sheet ≡ self.old.sheet) × (self.new.slip ≡ self.old.slip)) }
         ensures follows_history { Follows K.Kind K.Reckoned.own (ask_restore self.old.sheet.unit) self.old.sheet self.new.sheet (number_told result) }
     {
-        holding::restore(&mut self.sheet, &mut self.slip)
+        let slip = self.slip.take().ok_or(Refusal::WrongSlip)?;
+        let told = self.sheet.restore(slip);
+        held_again(&mut self.slip, told)
     }
 
     /// Gives up the slip that is held and answers the count. Refused with 5 exactly when no slip is
@@ -100,8 +126,12 @@ impl<K: Reckoned> Ledger<K> {
         ensures refuses { result_err result ≡ refuses {K = K} (stands self.old.sheet) (give_up self.old.sheet.unit) }
         ensures stays { SameBook K.Reckoned.own self.old.sheet self.new.sheet }
         ensures answers { MatchResult result (λ n. n ≡ self.old.sheet.cells.count) (λ _. (self.new.sheet ≡ self.old.sheet) × (self.new.slip ≡ self.old.slip)) }
+        ensures ended { self.new.sheet.parked ≡ Nothing }
+        ensures unaltered { self.new.sheet.cells ≡ self.old.sheet.cells }
         ensures follows_history { Follows K.Kind K.Reckoned.own (give_up self.old.sheet.unit) self.old.sheet self.new.sheet (number_told result) }
     {
-        holding::give_up(&mut self.sheet, &mut self.slip)
+        let slip = self.slip.take().ok_or(Refusal::WrongSlip)?;
+        let told = self.sheet.give_up(slip);
+        held_again(&mut self.slip, told)
     }
 }

@@ -4,7 +4,6 @@
 mod call;
 mod calling;
 mod comparing;
-mod holding;
 mod keeping;
 mod ledger;
 mod replaying;

@@ -19,7 +19,7 @@ pub struct Replayed<K> {
     /// The total of all its entries, read from its cells.
     pub total: K,
     /// What each call answered.
-    pub answers: Vec<Answer<K>>,
+    pub answers: Vec<Result<Answer<K>, Refusal>>,
 }
 
 /// A season that was not replayed: the table as it was, and why.
@@ -35,10 +35,7 @@ pub struct Unplayed<K> {
 fn total_of<K: Reckoned>(book: &ClosedSheet<K>) -> K
     ensures { result ≡ joined K.Reckoned.own (entries_of K.Reckoned.own book.now.sheet) }
 {
-    match book.total(book.count()) {
-        Ok(total) => total,
-        Err(_) => unreachable(),
-    }
+    book.total(book.count()).unwrap()
 }
 
 /// Makes a sheet of `table`, carries out or turns down every call in its order, restoring and giving
@@ -56,14 +53,11 @@ pub fn replay<K: Reckoned>(
 ) -> Result<Replayed<K>, Unplayed<K>>
     ensures { MatchResult result (λ s. Law K.Kind K.Reckoned.own unit table.items calls.now s.book.sheet s.total s.answers.items) (λ u. (u.table ≡ table) × (u.refusal ≡ numbered 24)) }
 {
-    let mut answers = match Vec::with_capacity(heap, calls.len()) {
-        Ok(answers) => answers,
-        Err(_) => {
-            return Err(Unplayed {
-                table,
-                refusal: Refusal::NoMemory,
-            });
-        }
+    let Ok(mut answers) = Vec::with_capacity(heap, calls.len()) else {
+        return Err(Unplayed {
+            table,
+            refusal: Refusal::NoMemory,
+        });
     };
     let mut ledger = Ledger::make(unit, table);
     for call in calls {

@@ -65,5 +65,5 @@ module _ {K : Type 0} (N : Kind.Ghosts K) (R : Reckoned.Ghosts K) (s : Sheet K) 
           rw (is ∙ total_there R (entries_of R s) i (omega (arith, long)))
           (follows_out N R (total_of i) s s _ (asks_yes _ 1 (le-leb i s.cells.count within)) (λ h k. (k, ap (λ xs. Entry (total R (take i xs))) k.entries)))
 
-  pub follows_count : (n : ℕ) → n ≡ s.cells.count → Follows N R count s s (Number n)
+  pub follows_count : (n : ℕ) → n ≡ s.cells.count → Follows N R count s s (Ok (Number n))
   follows_count n is = follows_out N R count s s (Number n) refl (λ h k. (k, ap Number (is ∙ count_of N R h s k)))

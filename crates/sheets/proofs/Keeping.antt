@@ -1,5 +1,5 @@
 -- How a sheet goes on keeping its history. Assumes nothing.
-use Rattle.std.proofs.Common.{◌≡◌, ℕ, ◌+◌, ◌-◌, ◌<◌, ◌≤◌, Bool, true, false, leb, List, [], ◌∷◌, ◌++◌, length, get_or, take, set, is_some, Some, None, vec_items, Option, sym, refl, ap, ◌∙◌, arith}
+use Rattle.std.proofs.Common.{◌≡◌, ℕ, ◌+◌, ◌-◌, ◌<◌, ◌≤◌, Bool, true, false, leb, List, [], ◌∷◌, ◌++◌, length, get_or, take, set, is_some, Some, None, Ok, Err, vec_items, Option, sym, refl, ap, ◌∙◌, arith}
 use Rattle.cells.proofs.Decoding.{length-decoded, cell_right}
 use Rattle.cells.specs.Cells.{Clean, decoded, own}
 use Rattle.kinds.proofs.Joins.{total-push, total-set, total-shift, total-pop}
@@ -13,7 +13,7 @@ use Rattle.sheets.specs.History.{Call, History, after, answer, amount, asks, car
 use Rattle.sheets.specs.Room.{kept}
 use Rattle.sheets.specs.Sheets.{Follows, Keeps, Left, as_number, cells_of, entries_of, stands}
 use Rattle.sheets.specs.declared.answer.Answer.{Answer}
-use Rattle.sheets.specs.declared.answer.Answer.TheVariants.{Number, Refused}
+use Rattle.sheets.specs.declared.answer.Answer.TheVariants.{Number}
 use Rattle.sheets.specs.declared.sheet.Sheet.{Sheet}
 use Rattle.std.proofs.lemmas.List.{get_or_default}
 use Rattle.std.proofs.lemmas.Bool.{le-leb, lt-leb}
@@ -68,16 +68,16 @@ module _ {K : Type 0} (N : Kind.Ghosts K) (R : Reckoned.Ghosts K) where
       k.right.past j (omega (arith, count_of h s k)) (omega (arith, s.cells.table.ok.0))
 
   -- a call carried out
-  pub follows_out : (c : Call K) (s t : Sheet K) (a : Answer K) → refuses (stands s) c ≡ None → ((h : History K) → Keeps N R h s → Keeps N R (carried R h c) t × (a ≡ told R h c)) → Follows N R c s t a
+  pub follows_out : (c : Call K) (s t : Sheet K) (a : Answer K) → refuses (stands s) c ≡ None → ((h : History K) → Keeps N R h s → Keeps N R (carried R h c) t × (a ≡ told R h c)) → Follows N R c s t (Ok a)
   unfolding after answer
-  follows_out c s t a passes step h k = rw (sym (ap (λ z. refuses z c) (stands_so h s k)) ∙ passes) (step h k)
+  follows_out c s t a passes step h k = rw (sym (ap (λ z. refuses z c) (stands_so h s k)) ∙ passes) ((step h k).0, ap Ok (step h k).1)
 
   -- a call turned down
-  pub follows_no : (c : Call K) (s : Sheet K) (f : Refusal) → refuses (stands s) c ≡ Some f → Follows N R c s s (Refused f)
+  pub follows_no : (c : Call K) (s : Sheet K) (f : Refusal) → refuses (stands s) c ≡ Some f → Follows N R c s s (Err f)
   unfolding after answer
   follows_no c s f fails h k = rw (sym (ap (λ z. refuses z c) (stands_so h s k)) ∙ fails) (k, refl)
 
-  pub follows_back : (c : Call K) (s : Sheet K) (f : Refusal) (n : ℕ) → f ≡ refusal n → refuses (stands s) c ≡ Some (refusal n) → Follows N R c s s (Refused f)
+  pub follows_back : (c : Call K) (s : Sheet K) (f : Refusal) (n : ℕ) → f ≡ refusal n → refuses (stands s) c ≡ Some (refusal n) → Follows N R c s s (Err f)
   follows_back c s f n is fails = follows_no c s f (fails ∙ ap Some (sym is))
 
   module _ (laws : Group R) where

@@ -1,11 +1,11 @@
 -- The history of a sheet: what was done to it, apart from any cells. Assumes nothing.
-use Rattle.std.specs.Prelude.{ℕ, ◌+◌, ◌-◌, Bool, true, false, not, ◌&&◌, List, [], ◌∷◌, ◌++◌, length, take, is_some, Some, None, Option, ◌==◌, nat_le, slice_index_or, slice_set}
+use Rattle.std.specs.Prelude.{ℕ, ◌+◌, ◌-◌, Bool, true, false, not, ◌&&◌, List, [], ◌∷◌, ◌++◌, length, take, is_some, Some, None, Option, Ok, Err, Result, ◌==◌, nat_le, slice_index_or, slice_set}
 use Rattle.kinds.specs.Refusals.{refusal}
 use Rattle.kinds.specs.Totals.{total}
 use Rattle.kinds.specs.declared.laws.Reckoned.{Ghosts}
 use Rattle.kinds.specs.declared.refusal.Refusal.{Refusal}
 use Rattle.sheets.specs.declared.answer.Answer.{Answer}
-use Rattle.sheets.specs.declared.answer.Answer.TheVariants.{Number, Entry, Slip, Refused}
+use Rattle.sheets.specs.declared.answer.Answer.TheVariants.{Number, Entry, Slip}
 
 -- what a sheet is asked; a slip counts as its unit number
 pub data Call (K : Type 0) : Type 0 where
@@ -32,6 +32,10 @@ pub record History (K : Type 0) : Type 0 where
 -- the history of a sheet just made
 abbrev pub begun : {K : Type 0} → Ghosts K → ℕ → ℕ → History K
 begun R unit cells = record { unit = unit; cells = cells; entries = []; parked = None; balance = R.zero }
+
+-- what a call is told: an answer, or why it is refused
+abbrev pub Reply : Type 0 → Type 0
+Reply K = Result (Answer K) Refusal
 
 -- ---- which calls are refused
 
@@ -137,14 +141,14 @@ module _ {K : Type 0} (R : Ghosts K) where
   after h c = unless (refuses (standing h) c) (carried h c) (λ f. h)
 
   -- what a call answers
-  unfoldable pub answer : History K → Call K → Answer K
-  answer h c = unless (refuses (standing h) c) (told h c) Refused
+  unfoldable pub answer : History K → Call K → Reply K
+  answer h c = unless (refuses (standing h) c) (Ok (told h c)) Err
 
   -- the history after a list of calls, and what they answer
   unfoldable pub after_all : History K → List (Call K) → History K
   after_all h [] = h
   after_all h (c ∷ cs) = after_all (after h c) cs
 
-  unfoldable pub answers : History K → List (Call K) → List (Answer K)
+  unfoldable pub answers : History K → List (Call K) → List (Reply K)
   answers h [] = []
   answers h (c ∷ cs) = answer h c ∷ answers (after h c) cs

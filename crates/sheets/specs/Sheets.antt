@@ -6,9 +6,8 @@ use Rattle.kinds.specs.declared.laws.Kind as Kind
 use Rattle.kinds.specs.declared.laws.Reckoned as Reckoned
 use Rattle.kinds.specs.declared.refusal.Refusal.{Refusal}
 use Rattle.runs.specs.Places.{entry_at}
-use Rattle.sheets.specs.History.{Call, History, Standing, after, answer}
-use Rattle.sheets.specs.declared.answer.Answer.{Answer}
-use Rattle.sheets.specs.declared.answer.Answer.TheVariants.{Number, Entry, Refused}
+use Rattle.sheets.specs.History.{Call, History, Reply, Standing, after, answer}
+use Rattle.sheets.specs.declared.answer.Answer.TheVariants.{Number, Entry}
 use Rattle.sheets.specs.declared.answer.Answer.TheVariants as answers
 use Rattle.sheets.specs.declared.sheet.Sheet.{Sheet}
 use Rattle.sheets.specs.declared.slip.HandedBack.{HandedBack}
@@ -43,7 +42,7 @@ pub record Keeps {K : Type 0} (N : Kind.Ghosts K) (R : Reckoned.Ghosts K) (h : H
 
 -- a call follows the history: whatever history the sheet kept before, it keeps the history after the call, and the answer
 -- is the history's
-abbrev pub Follows : {K : Type 0} → Kind.Ghosts K → Reckoned.Ghosts K → Call K → Sheet K → Sheet K → Answer K → Type 0
+abbrev pub Follows : {K : Type 0} → Kind.Ghosts K → Reckoned.Ghosts K → Call K → Sheet K → Sheet K → Reply K → Type 0
 Follows N R c s t a = (h : History _) → Keeps N R h s → Keeps N R (after R h c) t × (a ≡ answer R h c)
 
 -- what no call alters: the unit number, how long the table is, and what lies past its first 1,048,576
@@ -98,17 +97,17 @@ module _ {K : Type 0} (N : Kind.Ghosts K) (R : Reckoned.Ghosts K) (s t : Sheet K
 
 -- ---- answers, as the history has them
 
-abbrev pub number_told : {K : Type 0} → Result ℕ Refusal → Answer K
-number_told (Ok n) = Number n
-number_told (Err f) = Refused f
+abbrev pub number_told : {K : Type 0} → Result ℕ Refusal → Reply K
+number_told (Ok n) = Ok (Number n)
+number_told (Err f) = Err f
 
-abbrev pub entry_told : {K : Type 0} → Result K Refusal → Answer K
-entry_told (Ok e) = Entry e
-entry_told (Err f) = Refused f
+abbrev pub entry_told : {K : Type 0} → Result K Refusal → Reply K
+entry_told (Ok e) = Ok (Entry e)
+entry_told (Err f) = Err f
 
-abbrev pub slip_told : {K : Type 0} → Result Slip Refusal → Answer K
-slip_told (Ok slip) = answers.Slip slip.unit
-slip_told (Err f) = Refused f
+abbrev pub slip_told : {K : Type 0} → Result Slip Refusal → Reply K
+slip_told (Ok slip) = Ok (answers.Slip slip.unit)
+slip_told (Err f) = Err f
 
 -- a slip that is handed back is no part of the answer
 abbrev pub without_slip : {A : Type 0} → Result A HandedBack → Result A Refusal

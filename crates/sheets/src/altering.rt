@@ -17,10 +17,7 @@ pub(crate) fn add<K: Reckoned>(cells: &mut Cells<K>, entry: K) -> u32
     ensures adds { written K.Reckoned.own cells.new ≡ written K.Reckoned.own cells.old ++ (entry ∷ []) }
     ensures table { SameTable K.Reckoned.own cells.old cells.new }
 {
-    match cells.push(entry) {
-        Ok(count) => count,
-        Err(_) => unreachable(),
-    }
+    cells.push(entry).unwrap()
 }
 
 impl<K: Reckoned> Sheet<K> {

@@ -14,10 +14,7 @@ use kinds::{Kind, Reckoned, Refusal};
 fn amount_of<K: Reckoned>(number: u32) -> K
     ensures { (t : K) → K.Kind.number t ≡ number → result ≡ t }
 {
-    match K::from_number(number) {
-        Some(amount) => amount,
-        None => K::zero(),
-    }
+    K::from_number(number).unwrap_or(K::zero())
 }
 
 impl<K: Reckoned> Sheet<K> {

@@ -1,5 +1,5 @@
-use Rattle.std.proofs.Common.{◌≡◌, ℕ, ◌<◌, get_or}
+use Rattle.std.proofs.Common.{◌≡◌, ℕ, ◌<◌, length, get_or}
 use Rattle.ledgers.proofs.comparing.same_cells.Given as goal
 
-abbrev pub invariant-loop-i : goal.invariant-loop-i
-invariant-loop-i g l = (k : ℕ) → k < l.i → get_or l.cells k g.K.Reckoned.zero ≡ get_or l.others k g.K.Reckoned.zero
+abbrev pub invariant-loop-cell : goal.invariant-loop-cell
+invariant-loop-cell g l = (k : ℕ) → k < length l.yielded → get_or l.fn.cells k g.K.Reckoned.zero ≡ get_or l.fn.others k g.K.Reckoned.zero
