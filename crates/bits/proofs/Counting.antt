@@ -10,6 +10,14 @@ use lib.Count.{ones, ones_cat, ones-le}
 use lib.Pow.{high, low, mod-mod-pow, mod-pow-add}
 use native.Mathlib.Nat.{zero-mod}
 
+-- the ones before a bit are the ones before its word and those before it in its word
+pub ones_split : (n q s : ℕ) → ones_before n (32 * q + s) ≡ ones_before n (32 * q) + ones (n / 2 ^ (32 * q) % 2 ^ s)
+ones_split n q s =
+    ap (λ p. ones (n % 2 ^ p)) (add_comm (32 * q) s)
+    ∙ ap ones (mod-pow-add n s (32 * q))
+    ∙ ones_cat (32 * q) (n / 2 ^ (32 * q) % 2 ^ s) (n % 2 ^ (32 * q)) (mod-lt n (pow_pos (32 * q)))
+    ∙ add_comm (ones (n / 2 ^ (32 * q) % 2 ^ s)) (ones_before n (32 * q))
+
 -- there are no more ones than bits
 pub ones_few : (n p : ℕ) → ones_before n p ≤ p
 ones_few n p = ones-le p (n % 2 ^ p) (mod-lt n (pow_pos p))
@@ -20,14 +28,12 @@ ones_words ws fits zero = omega (arith, ones_few (number_of ws) 0)
 ones_words [] fits (suc k) = ap ones (zero-mod (2 ^ (32 * suc k))) ∙ omega (arith, ones_few 0 0)
 ones_words (w ∷ ws) fits (suc k) =
     let n = number_of ws in
-    let more : 32 * suc k ≡ 32 * k + 32 = omega arith in
+    let more : 32 * suc k ≡ 32 * 1 + 32 * k = omega arith in
     ap (ones_before (n * 2 ^ 32 + w)) more
-    ∙ ap ones (mod-pow-add (n * 2 ^ 32 + w) (32 * k) 32)
-    ∙ ap (λ m. ones (m % 2 ^ (32 * k) * 2 ^ 32 + (n * 2 ^ 32 + w) % 2 ^ 32)) (high n 32 (fits 0))
-    ∙ ap (λ m. ones (n % 2 ^ (32 * k) * 2 ^ 32 + m)) (low n 32 (fits 0))
-    ∙ ones_cat 32 (n % 2 ^ (32 * k)) w (fits 0)
-    ∙ ap (λ m. m + ones w) (ones_words ws (λ i. fits (suc i)) k)
-    ∙ add_comm (sum_by ones (take k ws)) (ones w)
+    ∙ ones_split (n * 2 ^ 32 + w) 1 (32 * k)
+    ∙ ap (λ m. ones m + ones ((n * 2 ^ 32 + w) / 2 ^ 32 % 2 ^ (32 * k))) (low n 32 (fits 0))
+    ∙ ap (λ m. ones w + ones (m % 2 ^ (32 * k))) (high n 32 (fits 0))
+    ∙ ap (λ m. ones w + m) (ones_words ws (λ i. fits (suc i)) k)
     ∙ sym (sum_by-cons ones w (take k ws))
 
 module _ (ws : List ℕ) (fits : (i : ℕ) → get_or ws i 0 < 2 ^ 32) where
@@ -48,11 +54,7 @@ module _ (ws : List ℕ) (fits : (i : ℕ) → get_or ws i 0 < 2 ^ 32) where
   -- and a part of a word
   pub ones_part : (q s : ℕ) → s ≤ 32 → ones_before (number_of ws) (32 * q + s) ≡ ones_before (number_of ws) (32 * q) + ones (get_or ws q 0 % 2 ^ s)
   ones_part q s few =
-      let n = number_of ws in
       let whole : 32 - s + s ≡ 32 = omega arith in
-      ap (λ p. ones (n % 2 ^ p)) (add_comm (32 * q) s)
-      ∙ ap ones (mod-pow-add n s (32 * q))
-      ∙ ones_cat (32 * q) (n / 2 ^ (32 * q) % 2 ^ s) (n % 2 ^ (32 * q)) (mod-lt n (pow_pos (32 * q)))
-      ∙ add_comm (ones (n / 2 ^ (32 * q) % 2 ^ s)) (ones_before n (32 * q))
-      ∙ ap (λ w. ones_before n (32 * q) + ones w)
-      (sym (mod-mod-pow (n / 2 ^ (32 * q)) (32 - s) s) ∙ ap (λ k. n / 2 ^ (32 * q) % 2 ^ k % 2 ^ s) whole ∙ ap (λ w. w % 2 ^ s) (word_of ws fits q))
+      ones_split (number_of ws) q s
+      ∙ ap (λ w. ones_before (number_of ws) (32 * q) + ones w)
+      (sym (mod-mod-pow (number_of ws / 2 ^ (32 * q)) (32 - s) s) ∙ ap (λ k. number_of ws / 2 ^ (32 * q) % 2 ^ k % 2 ^ s) whole ∙ ap (λ w. w % 2 ^ s) (word_of ws fits q))
