@@ -1,5 +1,5 @@
 -- Which texts are the decimal digits of a number. Assumes nothing.
-use Rattle.std.proofs.Common.{◌≡◌, ℕ, zero, suc, ◌+◌, ◌*◌, ◌^◌, ◌<◌, ◌≤◌, Bool, true, false, not, eqb, List, [], ◌∷◌, map, length, get_or, take, drop, ℤ, pos, negsuc, Some, None, decimal, MatchBool, Option, sym, refl, ap, ◌∙◌, subst, ⊎_elim, arith, MatchOption}
+use Rattle.std.proofs.Common.{◌≡◌, ℕ, zero, suc, ◌+◌, ◌*◌, ◌^◌, ◌<◌, ◌≤◌, Bool, true, false, not, eqb, List, [], ◌∷◌, map, length, get_or, take, drop, ℤ, pos, negsuc, Some, None, Ok, Err, Result, ◌-ℤ◌, decimal, MatchBool, Option, sym, refl, ap, ◌∙◌, subst, ⊎_elim, arith, MatchOption}
 use Rattle.std.proofs.lemmas.Fmt.{decimal_nonempty, decimal_digit, first_decimal, decimal-digits_value, digits_decimal, digits_value-decimal}
 use Rattle.std.proofs.lemmas.Int.Digits.{digits_value_is, digits_value_more, number_after_append, number_after_ge}
 use Rattle.std.proofs.lemmas.List.{take-append-drop, map-append}
@@ -9,7 +9,12 @@ use Rattle.std.specs.Str.Parse.{AllDigits, digits_value}
 use Rattle.std.specs.Char.{digit_value}
 use Rattle.std.specs.Fmt.{signed_decimal}
 use Rattle.std.specs.Int.Digits.{number_from_digits, number_from_digits_after}
+use Rattle.std.specs.Result.{OkIff, result_ok}
+use Rattle.std.proofs.lemmas.Int.{to_z-of_z}
+use Rattle.std.proofs.Math.IntN.{+ℤ_idl}
 use lib.Signed.{mag}
+use mir.Syntax.{w32, w64}
+use mir.Val.{SFits, of_z, to_z}
 
 own : IsNumeralModel (AllDigits 10) (digits_value 10)
 own = numerals_by_value (AllDigits 10) tells_digits
@@ -83,7 +88,14 @@ pub minus_read : (o : Option ℤ) (bs ds : List ℕ) → bs ≡ 45 ∷ ds → Ma
 minus_read (Some z) bs ds is h = h ∙ sym is
 minus_read None bs ds is h = λ z small so. let m = minus ds z small (so ∙ is) in h m.0 m.1 m.2
 
--- a text that begins with a byte is that byte and the rest
-pub first_rest : (bs : List ℕ) (b : ℕ) → 0 < length bs → get_or bs 0 0 ≡ b → bs ≡ b ∷ drop 1 bs
-first_rest [] b some is = absurd (omega arith)
-first_rest (c ∷ cs) b some is = ap (λ x. x ∷ cs) is
+-- what `try_from` and then `ok` answer
+pub answered : {E : Type 0} (r : Result ℤ E) (o : Option ℤ) (v : ℤ) (N : Type 0) (Y : ℤ → Type 0) → OkIff r (SFits w32 v) v → o ≡ result_ok r → (¬ SFits w32 v → N) → Y v → MatchOption o N Y
+answered (Ok x) o v N Y h is out here = subst (λ p. MatchOption p N Y) (sym is) (subst Y (sym h.1) here)
+answered (Err e) o v N Y h is out here = subst (λ p. MatchOption p N Y) (sym is) (out h)
+
+-- the opposite of a number, as the bits of 64 digits have it
+pub opposite : (n m : ℕ) → n ≡ suc m → n < 2 ^ 32 → to_z w64 (of_z w64 (pos 0 -ℤ to_z w64 (of_z w64 (pos n)))) ≡ negsuc m
+opposite n m is small =
+    ap (λ z. to_z w64 (of_z w64 (pos 0 -ℤ z))) (to_z-of_z w64 (pos n) (record { sfits = omega arith }) ∙ ap pos is)
+    ∙ ap (λ z. to_z w64 (of_z w64 z)) (+ℤ_idl (negsuc m))
+    ∙ to_z-of_z w64 (negsuc m) (record { sfits = omega arith })
