@@ -1,20 +1,15 @@
 -- Which texts are the decimal digits of a number. Assumes nothing.
-use Rattle.std.proofs.Common.{◌≡◌, ℕ, zero, suc, ◌+◌, ◌*◌, ◌^◌, ◌<◌, ◌≤◌, Bool, true, false, not, eqb, List, [], ◌∷◌, map, length, get_or, take, drop, ℤ, pos, negsuc, Some, None, Ok, Err, Result, ◌-ℤ◌, decimal, MatchBool, Option, sym, refl, ap, ◌∙◌, subst, ⊎_elim, arith, MatchOption}
+use Rattle.std.proofs.Common.{◌≡◌, ℕ, zero, suc, ◌+◌, ◌*◌, ◌^◌, ◌<◌, ◌≤◌, List, [], ◌∷◌, map, length, get_or, take, drop, ℤ, pos, negsuc, Some, None, decimal, Option, sym, ap, ◌∙◌, subst, ⊎_elim, arith, MatchOption}
 use Rattle.std.proofs.lemmas.Fmt.{decimal_nonempty, decimal_digit, first_decimal, decimal-digits_value, digits_decimal, digits_value-decimal}
 use Rattle.std.proofs.lemmas.Int.Digits.{digits_value_is, digits_value_more, number_after_append, number_after_ge}
 use Rattle.std.proofs.lemmas.List.{take-append-drop, map-append}
 use Rattle.std.proofs.lemmas.Str.Parse.{IsNumeralModel, numerals_by_value, tells_digits}
-use Rattle.std.proofs.lemmas.Bool.{cases_lt, eqb-true, eqb-false}
+use Rattle.std.proofs.lemmas.Bool.{cases_lt}
 use Rattle.std.specs.Str.Parse.{AllDigits, digits_value}
 use Rattle.std.specs.Char.{digit_value}
 use Rattle.std.specs.Fmt.{signed_decimal}
 use Rattle.std.specs.Int.Digits.{number_from_digits, number_from_digits_after}
-use Rattle.std.specs.Result.{OkIff, result_ok}
-use Rattle.std.proofs.lemmas.Int.{to_z-of_z}
-use Rattle.std.proofs.Math.IntN.{+ℤ_idl}
 use lib.Signed.{mag}
-use mir.Syntax.{w32, w64}
-use mir.Val.{SFits, of_z, to_z}
 
 own : IsNumeralModel (AllDigits 10) (digits_value 10)
 own = numerals_by_value (AllDigits 10) tells_digits
@@ -70,14 +65,6 @@ pub spelled : (bs : List ℕ) (n : ℕ) → AllDigits 10 bs → n ≡ digits_val
 spelled bs n ds is small some lead =
     ap decimal is ∙ decimal-digits_value own bs ds some (λ z. let no : 1 < length bs → ⊥ = λ long. lead long z in omega arith) (omega arith)
 
--- whether a text of several bytes begins well, by its first
-pub begun : (bs : List ℕ) (b : ℕ) → 1 < length bs → b ≡ get_or bs 0 0 → MatchBool (not (eqb b 48)) ((0 < length bs) × (1 < length bs → get_or bs 0 0 ≡ 48 → ⊥)) ((n : ℕ) → n < 2 ^ 32 → decimal n ≡ bs → ⊥)
-begun bs b long is = go (eqb b 48) refl
-  where
-    go : (t : Bool) → eqb b 48 ≡ t → MatchBool (not t) ((0 < length bs) × (1 < length bs → get_or bs 0 0 ≡ 48 → ⊥)) ((n : ℕ) → n < 2 ^ 32 → decimal n ≡ bs → ⊥)
-    go true e = λ n small so. no_lead bs n small so long (sym is ∙ eqb-true b 48 e)
-    go false e = (omega arith, λ _ z. eqb-false b 48 e (is ∙ z))
-
 -- a text that begins with a minus is a negative number's
 pub minus : (ds : List ℕ) (z : ℤ) → mag z < 2 ^ 31 → signed_decimal z ≡ 45 ∷ ds → (n : ℕ) × (n < 2 ^ 31) × (decimal (suc n) ≡ ds)
 minus ds (pos n) small is = absurd (all_digits (45 ∷ ds) n (omega arith) is 0 (omega arith) (omega arith))
@@ -87,15 +74,3 @@ minus ds (negsuc n) small is = (n, small, ap (drop 1) is)
 pub minus_read : (o : Option ℤ) (bs ds : List ℕ) → bs ≡ 45 ∷ ds → MatchOption o ((n : ℕ) → n < 2 ^ 31 → decimal (suc n) ≡ ds → ⊥) (λ z. signed_decimal z ≡ 45 ∷ ds) → MatchOption o ((z : ℤ) → mag z < 2 ^ 31 → signed_decimal z ≡ bs → ⊥) (λ z. signed_decimal z ≡ bs)
 minus_read (Some z) bs ds is h = h ∙ sym is
 minus_read None bs ds is h = λ z small so. let m = minus ds z small (so ∙ is) in h m.0 m.1 m.2
-
--- what `try_from` and then `ok` answer
-pub answered : {E : Type 0} (r : Result ℤ E) (o : Option ℤ) (v : ℤ) (N : Type 0) (Y : ℤ → Type 0) → OkIff r (SFits w32 v) v → o ≡ result_ok r → (¬ SFits w32 v → N) → Y v → MatchOption o N Y
-answered (Ok x) o v N Y h is out here = subst (λ p. MatchOption p N Y) (sym is) (subst Y (sym h.1) here)
-answered (Err e) o v N Y h is out here = subst (λ p. MatchOption p N Y) (sym is) (out h)
-
--- the opposite of a number, as the bits of 64 digits have it
-pub opposite : (n m : ℕ) → n ≡ suc m → n < 2 ^ 32 → to_z w64 (of_z w64 (pos 0 -ℤ to_z w64 (of_z w64 (pos n)))) ≡ negsuc m
-opposite n m is small =
-    ap (λ z. to_z w64 (of_z w64 (pos 0 -ℤ z))) (to_z-of_z w64 (pos n) (record { sfits = omega arith }) ∙ ap pos is)
-    ∙ ap (λ z. to_z w64 (of_z w64 z)) (+ℤ_idl (negsuc m))
-    ∙ to_z-of_z w64 (negsuc m) (record { sfits = omega arith })

@@ -7,6 +7,7 @@ ghost use Rattle.std.specs.Fmt.{signed_decimal};
 ghost use Rattle.std.specs.Int.Signed.{mag};
 
 /// The number below 2^32 whose decimal digits `text` is; `None` exactly when it is those of none.
+#[tactic(auto, using(crate::proofs::Spelled::all_digits, crate::proofs::Spelled::not_large))]
 pub fn read_unsigned(text: &[u8]) -> Option<u32>
     ensures { MatchOption result ((n : ℕ) → n < 2 ^ 32 → decimal n ≢ text.now) (λ n. decimal n ≡ text.now) }
 {
@@ -32,6 +33,7 @@ pub fn read_signed(text: &[u8]) -> Option<i32>
 }
 
 // The number of 31 bits whose decimal digits `text` is.
+#[tactic(auto, using(std::proofs::lemmas::Fmt::decimal_injective))]
 fn positive(text: &[u8]) -> Option<i32>
     ensures { MatchOption result ((n : ℕ) → n < 2 ^ 31 → decimal n ≢ text.now) (λ z. signed_decimal z ≡ text.now) }
 {
@@ -52,6 +54,7 @@ fn negative(digits: &[u8]) -> Option<i32>
 }
 
 // Whether there is something, and no zero in front of more.
+#[tactic(auto, using(crate::proofs::Spelled::not_empty, crate::proofs::Spelled::no_lead))]
 fn well_begun(text: &[u8]) -> bool
     ensures { MatchBool result ((0 < length text.now) × (1 < length text.now → slice_index text.now 0 ≢ 48)) ((n : ℕ) → n < 2 ^ 32 → decimal n ≢ text.now) }
 {
