@@ -39,6 +39,7 @@ impl Place {
     }
 
     // A word with the lowest bits of `x` there.
+    #[tactic(auto, using(crate::proofs::Replacing::replaced))]
     fn put(self, word: u32, x: u32) -> u32
         ensures { result + word / 2 ^ self.shift % 2 ^ self.bits * 2 ^ self.shift ≡ word + x % 2 ^ self.bits * 2 ^ self.shift }
     {
@@ -49,6 +50,7 @@ impl Place {
 }
 
 /// Chunk `t` of a part, chunks counted from 0: zero past the last.
+#[tactic(auto, using(crate::proofs::Packing::chunk_digit))]
 pub fn read_chunk(words: &[u32], width: Width, t: usize) -> u32
     ensures { result ≡ digit (bits_of width) t (number_of words.now) }
 {

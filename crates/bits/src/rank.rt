@@ -8,6 +8,7 @@ use crate::words::{lowest, word_at};
 /// How many of the first `place` bits of a part are ones. The directory has a word for every 256 bits
 /// begun, which says how many ones there are before those 256; where the word for this place is
 /// right, so is the answer, and at most nine words are read.
+#[tactic(auto, using(crate::proofs::Counting::ones_between, crate::proofs::Counting::ones_part, crate::proofs::Counting::ones_few))]
 pub fn ones_before(bits: &[u32], directory: &[u32], place: usize) -> u32
     ensures { place < 2 ^ 32 → slice_index directory.now (place / 256) ≡ rank (number_of bits.now) (256 * (place / 256)) → result ≡ rank (number_of bits.now) place }
 {
