@@ -65,6 +65,7 @@ pub fn write_chunk(words: &mut [u32], width: Width, t: usize, x: u32) -> bool
     ensures within { MatchBool result (bits_of width * t < 32 * length words.old) (32 * length words.old ≤ bits_of width * t) }
 {
     let place = Place::of(width, t);
+    // Not by `get_mut`, which was tried: its contract says nothing of what the words are afterwards.
     if place.word >= words.len() {
         return false;
     }
