@@ -6,6 +6,7 @@ mod rank;
 #[cfg(test)]
 mod tests;
 mod width;
+mod words;
 
 pub use chunks::{read_chunk, write_chunk};
 pub use rank::ones_before;

@@ -1,10 +1,10 @@
 -- Which texts are the decimal digits of a number. Assumes nothing.
-use Rattle.std.proofs.Common.{◌≡◌, ℕ, zero, suc, ◌+◌, ◌*◌, ◌^◌, ◌<◌, ◌≤◌, Bool, true, false, not, eqb, List, [], ◌∷◌, map, length, get_or, take, drop, ℤ, pos, negsuc, Some, None, decimal, MatchBool, Option, sym, refl, ap, ◌∙◌, subst, ⊎_elim, arith, MatchOption}
+use Rattle.std.proofs.Common.{◌≡◌, ℕ, zero, suc, ◌+◌, ◌*◌, ◌^◌, ◌<◌, ◌≤◌, List, [], ◌∷◌, map, length, get_or, take, drop, ℤ, pos, negsuc, Some, None, decimal, Option, sym, ap, ◌∙◌, subst, ⊎_elim, arith, MatchOption}
 use Rattle.std.proofs.lemmas.Fmt.{decimal_nonempty, decimal_digit, first_decimal, decimal-digits_value, digits_decimal, digits_value-decimal}
 use Rattle.std.proofs.lemmas.Int.Digits.{digits_value_is, digits_value_more, number_after_append, number_after_ge}
 use Rattle.std.proofs.lemmas.List.{take-append-drop, map-append}
 use Rattle.std.proofs.lemmas.Str.Parse.{IsNumeralModel, numerals_by_value, tells_digits}
-use Rattle.std.proofs.lemmas.Bool.{cases_lt, eqb-true, eqb-false}
+use Rattle.std.proofs.lemmas.Bool.{cases_lt}
 use Rattle.std.specs.Str.Parse.{AllDigits, digits_value}
 use Rattle.std.specs.Char.{digit_value}
 use Rattle.std.specs.Fmt.{signed_decimal}
@@ -65,14 +65,6 @@ pub spelled : (bs : List ℕ) (n : ℕ) → AllDigits 10 bs → n ≡ digits_val
 spelled bs n ds is small some lead =
     ap decimal is ∙ decimal-digits_value own bs ds some (λ z. let no : 1 < length bs → ⊥ = λ long. lead long z in omega arith) (omega arith)
 
--- whether a text of several bytes begins well, by its first
-pub begun : (bs : List ℕ) (b : ℕ) → 1 < length bs → b ≡ get_or bs 0 0 → MatchBool (not (eqb b 48)) ((0 < length bs) × (1 < length bs → get_or bs 0 0 ≡ 48 → ⊥)) ((n : ℕ) → n < 2 ^ 32 → decimal n ≡ bs → ⊥)
-begun bs b long is = go (eqb b 48) refl
-  where
-    go : (t : Bool) → eqb b 48 ≡ t → MatchBool (not t) ((0 < length bs) × (1 < length bs → get_or bs 0 0 ≡ 48 → ⊥)) ((n : ℕ) → n < 2 ^ 32 → decimal n ≡ bs → ⊥)
-    go true e = λ n small so. no_lead bs n small so long (sym is ∙ eqb-true b 48 e)
-    go false e = (omega arith, λ _ z. eqb-false b 48 e (is ∙ z))
-
 -- a text that begins with a minus is a negative number's
 pub minus : (ds : List ℕ) (z : ℤ) → mag z < 2 ^ 31 → signed_decimal z ≡ 45 ∷ ds → (n : ℕ) × (n < 2 ^ 31) × (decimal (suc n) ≡ ds)
 minus ds (pos n) small is = absurd (all_digits (45 ∷ ds) n (omega arith) is 0 (omega arith) (omega arith))
@@ -82,8 +74,3 @@ minus ds (negsuc n) small is = (n, small, ap (drop 1) is)
 pub minus_read : (o : Option ℤ) (bs ds : List ℕ) → bs ≡ 45 ∷ ds → MatchOption o ((n : ℕ) → n < 2 ^ 31 → decimal (suc n) ≡ ds → ⊥) (λ z. signed_decimal z ≡ 45 ∷ ds) → MatchOption o ((z : ℤ) → mag z < 2 ^ 31 → signed_decimal z ≡ bs → ⊥) (λ z. signed_decimal z ≡ bs)
 minus_read (Some z) bs ds is h = h ∙ sym is
 minus_read None bs ds is h = λ z small so. let m = minus ds z small (so ∙ is) in h m.0 m.1 m.2
-
--- a text that begins with a byte is that byte and the rest
-pub first_rest : (bs : List ℕ) (b : ℕ) → 0 < length bs → get_or bs 0 0 ≡ b → bs ≡ b ∷ drop 1 bs
-first_rest [] b some is = absurd (omega arith)
-first_rest (c ∷ cs) b some is = ap (λ x. x ∷ cs) is

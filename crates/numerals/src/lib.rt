@@ -7,6 +7,7 @@ ghost use Rattle.std.specs.Fmt.{signed_decimal};
 ghost use Rattle.std.specs.Int.Signed.{mag};
 
 /// The number below 2^32 whose decimal digits `text` is; `None` exactly when it is those of none.
+#[tactic(auto, using(crate::proofs::Spelled::all_digits, crate::proofs::Spelled::not_large))]
 pub fn read_unsigned(text: &[u8]) -> Option<u32>
     ensures { MatchOption result ((n : ℕ) → n < 2 ^ 32 → decimal n ≢ text.now) (λ n. decimal n ≡ text.now) }
 {
@@ -25,41 +26,42 @@ pub fn read_unsigned(text: &[u8]) -> Option<u32>
 pub fn read_signed(text: &[u8]) -> Option<i32>
     ensures { MatchOption result ((z : ℤ) → mag z < 2 ^ 31 → signed_decimal z ≢ text.now) (λ z. signed_decimal z ≡ text.now) }
 {
-    if text.is_empty() || char::from(text[0]) != '-' {
-        return positive(text);
+    match text {
+        [first, digits @ ..] if char::from(*first) == '-' => negative(digits),
+        _ => positive(text),
     }
-    negative(&text[1..])
 }
 
 // The number of 31 bits whose decimal digits `text` is.
+#[tactic(auto, using(std::proofs::lemmas::Fmt::decimal_injective))]
 fn positive(text: &[u8]) -> Option<i32>
     ensures { MatchOption result ((n : ℕ) → n < 2 ^ 31 → decimal n ≢ text.now) (λ z. signed_decimal z ≡ text.now) }
 {
-    match i32::try_from(read_unsigned(text)?) {
-        Ok(n) => Some(n),
-        Err(_) => None,
-    }
+    i32::try_from(read_unsigned(text)?).ok()
 }
 
 // The opposite of the number whose decimal digits `digits` is, if that is 1 to 2^31.
+#[tactic(auto, using(std::proofs::lemmas::Fmt::decimal_injective))]
 fn negative(digits: &[u8]) -> Option<i32>
     ensures { MatchOption result ((n : ℕ) → n < 2 ^ 31 → decimal (suc n) ≢ digits.now) (λ z. signed_decimal z ≡ 45 ∷ digits.now) }
 {
     let n = read_unsigned(digits)?;
-    match i32::try_from(n.checked_sub(1)?) {
-        Ok(m) => Some(-m - 1),
-        Err(_) => None,
+    if n == 0 {
+        None
+    } else {
+        i32::try_from(-i64::from(n)).ok()
     }
 }
 
 // Whether there is something, and no zero in front of more.
+#[tactic(auto, using(crate::proofs::Spelled::not_empty, crate::proofs::Spelled::no_lead))]
 fn well_begun(text: &[u8]) -> bool
     ensures { MatchBool result ((0 < length text.now) × (1 < length text.now → slice_index text.now 0 ≢ 48)) ((n : ℕ) → n < 2 ^ 32 → decimal n ≢ text.now) }
 {
-    match text.len() {
-        0 => false,
-        1 => true,
-        _ => char::from(text[0]) != '0',
+    match text {
+        [] => false,
+        [_] => true,
+        [first, _, ..] => char::from(*first) != '0',
     }
 }
 

@@ -1,21 +1,8 @@
-use Rattle.std.proofs.Common.{get_or, sym, ap, ◌∙◌, subst, ⊎_elim, arith, take_all}
-use Rattle.numerals.proofs.Spelled.{all_digits, not_large, spelled}
+use Rattle.std.proofs.Common.{ap, ◌∙◌, subst, arith, take_all}
+use Rattle.numerals.proofs.Spelled.{spelled}
 use Rattle.numerals.proofs.read_unsigned.Goals as goal
 use Rattle.std.proofs.lemmas.Int.Digits.{digits_value_more, digits_more}
-use Rattle.std.proofs.lemmas.Bool.{cases_lt}
 use Rattle.std.specs.Str.Parse.{AllDigits, digits_value}
-use Rattle.std.specs.Char.{digit_value}
-
-pub returns-in_err-n : goal.returns-in_err-n
-returns-in_err-n c =
-    let bs = c.args.text.now in
-    let i = c.loop-b.b-index in
-    let d = digit_value (get_or bs i 0) in
-    rw c.from_residual.ensures (λ m small is.
-    ⊎_elim
-    (λ h. not_large bs m small is i c.loop-b-test.true (rw (sym c.loop-b.invariant.1) (c.in_err-n.ensures h)))
-    (λ h. all_digits bs m small is i c.loop-b-test.true h)
-    (cases_lt d 10))
 
 pub loop-b-preserved : goal.loop-b-preserved
 loop-b-preserved c =
