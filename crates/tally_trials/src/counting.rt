@@ -53,22 +53,18 @@ fn tallies<R: Run>(
 fn tallies_of_steps_flags_and_faults(rt: HostRuntime) -> Result<(), Fail> {
     let heap = rt.alloc();
     let steps: &[Steps] = &[
-        Steps::new(4),
-        Steps::new(-4),
-        Steps::new(4),
-        Steps::new(0),
-        Steps::new(4),
+        Steps::from(4),
+        Steps::from(-4),
+        Steps::from(4),
+        Steps::from(0),
+        Steps::from(4),
     ];
     tallies(&rt, heap, &steps, &[(8, 3), (7, 1), (0, 1)])?;
     tallies(&rt, heap, &Excerpt::new(steps, 1, 2), &[(8, 1), (7, 1)])?;
-    let flags: &[Flags] = &[Flags::new(255), Flags::new(0), Flags::new(255)];
+    let flags: &[Flags] = &[Flags::from(255), Flags::from(0), Flags::from(255)];
     tallies(&rt, heap, &flags, &[(255, 2), (0, 1)])?;
-    let Some(ten) = Faults::new(10) else {
-        return Err(Fail::new("10 is a fault"));
-    };
-    let Some(nine) = Faults::new(9) else {
-        return Err(Fail::new("9 is a fault"));
-    };
+    let ten = Faults::try_from(10)?;
+    let nine = Faults::try_from(9)?;
     let faults: &[Faults] = &[ten, nine, ten, ten];
     tallies(&rt, heap, &faults, &[(10, 3), (9, 1)])?;
     let notches: &[Notch] = &[Notch::turned(3), Notch::turned(8), Notch::turned(1)];
@@ -82,7 +78,7 @@ fn a_million_different_numbers(rt: HostRuntime) -> Result<(), Fail> {
     let heap = rt.alloc();
     let mut entries = Vec::with_capacity(heap, 1048576)?;
     for i in 0..1048576u32 {
-        entries.push(Counts::new(i.wrapping_mul(2654435761)))?;
+        entries.push(Counts::from(i.wrapping_mul(2654435761)))?;
     }
     let mut records = vec![in heap; BLANK; 1048576]?;
     let n = tally(heap, &entries.as_slice(), records.as_mut_slice())?;
