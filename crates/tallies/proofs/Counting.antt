@@ -1,10 +1,11 @@
 -- The entries of a map that counts are a tally. Assumes nothing.
-use Rattle.std.proofs.Common.{◌≡◌, ℕ, ◌+◌, ◌<◌, ◌≤◌, Bool, true, false, cond, eqb, List, [], ◌∷◌, map, Option, Some, None, unwrap_or, is_some, BTreeMap, Equal, Greater, sym, refl, ap, ◌∙◌, subst, ⊎_elim, arith}
+use Rattle.std.proofs.Common.{◌≡◌, ℕ, ◌+◌, ◌<◌, ◌≤◌, Bool, true, false, cond, eqb, List, [], ◌∷◌, map, Option, Some, None, unwrap_or, is_some, BTreeMap, sym, refl, ap, ◌∙◌, subst, arith}
 use Rattle.tallies.specs.Counts.{Counts, record_of}
 use Rattle.tallies.specs.Tallies.{times, records_for, Tallied}
 use Rattle.tallies.specs.declared.records.TallyRecord.{TallyRecord}
 use Rattle.tallies.proofs.Sums.{OneEach, sum_by_same, all_counted}
-use Rattle.std.proofs.lemmas.Bool.{cases_lt, lt-ltb, le-ltb, ne_eqb}
+use Rattle.std.proofs.lemmas.Bool.{cond_both}
+use Rattle.std.proofs.lemmas.Bool.Decides.{nat_tests}
 use Rattle.std.proofs.lemmas.List.Elements.{All-map, All-weaker}
 use Rattle.std.proofs.lemmas.List.Sums.{sum_by-cons}
 use Rattle.std.proofs.lemmas.Map.{lookup-none}
@@ -16,15 +17,11 @@ use Rattle.std.specs.Cmp.{nat_cmp_total, eq_by_cmp_equiv}
 use Rattle.std.specs.List.{All}
 use Rattle.std.specs.List.Sorted.{IsStrictlySortedBy}
 use Rattle.std.specs.Map.{keys_of, lookup}
-use Rattle.std.specs.Ordering.{nat_cmp, is_eq}
+use Rattle.std.specs.Ordering.{nat_cmp}
 
 -- the map's test of a key is equality
 at_number : (n k : ℕ) → is_at (nat_cmp n) k ≡ eqb n k
-at_number n k = ⊎_elim (λ (l : n < k). rw (lt-ltb n k l, ne_eqb n k (λ e. omega arith)) refl) (λ (l : k ≤ n). rw (le-ltb n k l) (step (eqb n k))) (cases_lt n k)
-  where
-    step : (b : Bool) → is_eq (cond b Equal Greater) ≡ b
-    step true = refl
-    step false = refl
+at_number n k = grind (arith, nat_tests)
 
 -- a number has a record if it is a key, and one only, since the keys rise
 records_at : (n : ℕ) (es : List (ℕ × ℕ)) → IsStrictlySortedBy nat_cmp (keys_of es) → records_for n (map record_of es) ≡ cond (is_some (lookup (is_at (nat_cmp n)) es)) 1 0
@@ -54,15 +51,15 @@ module _ (ns : List ℕ) (m : BTreeMap ℕ ℕ) (counts : Counts ns m) (rising :
   exact : All (λ (r : TallyRecord). r.times ≡ times r.number ns) (map record_of m.entries)
   exact = All-map (λ (r : TallyRecord). r.times ≡ times r.number ns) record_of m.entries (All-weaker (λ (e : ℕ × ℕ). get nat_cmp m e.0 ≡ Some e.1) (λ (e : ℕ × ℕ). e.1 ≡ times e.0 ns) (λ e h. ap (λ o. unwrap_or o 0) (sym h) ∙ counts.exact e.0) m.entries (All-found nat_cmp_total m rising))
 
-  pub tallied : Tallied ns (map record_of m.entries)
-  tallied = record {
-    distinct = λ n. at_most n (is_some (lookup (is_at (nat_cmp n)) m.entries)) (records_at n m.entries rising);
+  entries_tallied : Tallied ns (map record_of m.entries)
+  entries_tallied = record {
+    distinct = λ n. rw (records_at n m.entries rising) (cond_both (is_some (get nat_cmp m n)) 1 0 (λ k. k ≤ 1) (λ _. omega arith) (λ _. omega arith));
     there = λ n h. omega (arith, one_each n h);
     exact = exact;
     used = All-map (λ (r : TallyRecord). 0 < r.times) record_of m.entries (All-weaker (λ (e : ℕ × ℕ). get nat_cmp m e.0 ≡ Some e.1) (λ (e : ℕ × ℕ). 0 < e.1) (λ e h. subst (λ o. 0 < unwrap_or o 1) h (counts.used e.0)) m.entries (All-found nat_cmp_total m rising));
     adds_up = sum_by_same (λ (r : TallyRecord). r.times) (λ (r : TallyRecord). times r.number ns) (map record_of m.entries) exact ∙ all_counted ns (map record_of m.entries) one_each;
   }
-    where
-      at_most : (n : ℕ) (t : Bool) → records_for n (map record_of m.entries) ≡ cond t 1 0 → records_for n (map record_of m.entries) ≤ 1
-      at_most n true e = omega arith
-      at_most n false e = omega arith
+
+-- records of the entries, whichever name their list and that of the numbers go by
+pub tallied : {ns ms : List ℕ} {m : BTreeMap ℕ ℕ} {rs : List TallyRecord} → Counts ms m → IsOrdered nat_cmp m → rs ≡ map record_of m.entries → ms ≡ ns → Tallied ns rs
+tallied counts rising each same = rw (each, sym same) (entries_tallied _ _ counts rising)

@@ -1,11 +1,12 @@
 -- A tally has as many records as there are different numbers. Assumes nothing.
-use Rattle.std.proofs.Common.{◌≡◌, ℕ, ◌+◌, ◌<◌, ◌≤◌, Bool, true, false, cond, ltb, List, [], ◌∷◌, length, take, drop, Ok, Err, sum_by, Result, sym, refl, ap, ◌∙◌, subst, inl, arith}
+use Rattle.std.proofs.Common.{◌≡◌, ℕ, ◌<◌, ◌≤◌, cond, ltb, List, [], ◌∷◌, length, take, drop, Ok, Err, sum_by, Result, sym, refl, ap, ◌∙◌, subst, inl, arith}
 use Rattle.kinds.specs.declared.refusal.Refusal.{Refusal}
 use Rattle.tallies.specs.Counts.{Written}
 use Rattle.tallies.specs.Tallies.{times, different, Tallied, Answered}
 use Rattle.tallies.specs.declared.records.TallyRecord.{TallyRecord}
 use Rattle.tallies.proofs.Sums.{all_different}
 use Rattle.std.proofs.lemmas.Bool.{lt-ltb}
+use Rattle.std.proofs.lemmas.Bool.Decides.{nat_tests}
 use Rattle.std.proofs.lemmas.List.{take_at, drop_at}
 use Rattle.std.proofs.lemmas.List.Elements.{All-head, All-tail}
 use Rattle.std.proofs.lemmas.List.Sums.{sum_by-cons}
@@ -24,11 +25,7 @@ tally_length ns rs t =
 
 different_few : (ns : List ℕ) → different ns ≤ length ns
 different_few [] = omega arith
-different_few (n ∷ ns) = go (different_few ns) (ltb 0 (times n ns))
-  where
-    go : different ns ≤ length ns → (t : Bool) → cond t 0 1 + different ns ≤ length (n ∷ ns)
-    go few true = omega arith
-    go few false = omega arith
+different_few (n ∷ ns) = grind (arith, nat_tests, different_few ns)
 
 -- and no more records than numbers
 pub tally_few : (ns : List ℕ) (rs : List TallyRecord) → Tallied ns rs → length rs ≤ length ns

@@ -1,10 +1,11 @@
 -- Sums over records of which each number of a list has one. Assumes nothing.
-use Rattle.std.proofs.Common.{◌≡◌, ℕ, ◌+◌, ◌<◌, Bool, true, false, ◌||◌, cond, eqb, ltb, List, [], ◌∷◌, length, sum_by, refl, ap, ◌∙◌, subst, ⊎_elim, arith}
+use Rattle.std.proofs.Common.{◌≡◌, ℕ, ◌+◌, ◌<◌, Bool, true, false, cond, eqb, ltb, List, [], ◌∷◌, length, sum_by, refl, ap, ◌∙◌, arith}
 use Rattle.tallies.specs.Tallies.{times, records_for, different}
 use Rattle.tallies.specs.declared.records.TallyRecord.{TallyRecord}
-use Rattle.std.proofs.lemmas.Bool.{cases_eq, eq-eqb, ne_eqb, lt-ltb}
+use Rattle.std.proofs.lemmas.Bool.{eq-eqb, ltb-true, ltb-false}
 use Rattle.std.proofs.lemmas.List.Elements.{All-head, All-tail}
 use Rattle.std.proofs.lemmas.List.Sums.{sum_by-cons}
+use Rattle.std.proofs.lemmas.Bool.Decides.{nat_tests}
 use Rattle.std.specs.Cmp.{nat_eq_equiv}
 use Rattle.std.specs.List.{All}
 
@@ -31,9 +32,6 @@ times_cons m n ns = sum_by-cons (λ k. cond (eqb m k) 1 0) n ns ∙ ap (λ t. co
 abbrev has : List ℕ → ℕ → ℕ
 has ns m = cond (ltb 0 (times m ns)) 1 0
 
-lt-has : (k : ℕ) → 0 < k → cond {A = ℕ} (ltb 0 k) 1 0 ≡ 1
-lt-has k h = rw (lt-ltb 0 k h) refl
-
 -- each number of the list has one record
 abbrev pub OneEach : List ℕ → List TallyRecord → Type 0
 OneEach ns rs = (n : ℕ) → 0 < times n ns → records_for n rs ≡ 1
@@ -52,21 +50,13 @@ all_counted (n ∷ ns) rs one =
     omega (arith, one_first n ns rs one, all_counted ns rs (one_others n ns rs one))
 
 module _ (n : ℕ) (ns : List ℕ) where
-  -- one number more of a list: another one occurs as before, and that one does
-  has_more : (m : ℕ) → has (n ∷ ns) m ≡ cond (eqb n m || ltb 0 (times m ns)) 1 0
-  has_more m = ap (λ k. cond (ltb 0 k) 1 0) (times_cons m n ns) ∙ step (eqb n m)
-    where
-      step : (b : Bool) → cond {A = ℕ} (ltb 0 (cond b 1 0 + times m ns)) 1 0 ≡ cond (b || ltb 0 (times m ns)) 1 0
-      step true = lt-has (1 + times m ns) (omega arith)
-      step false = ap (λ k. cond (ltb 0 k) 1 0) (omega arith)
+  -- one number more of a list that has it changes nothing
+  has_known : 0 < times n ns → (m : ℕ) → has (n ∷ ns) m ≡ has ns m
+  has_known some m = grind (arith, nat_tests, times_cons m n ns)
 
-  -- it occurred before
-  has_known : ltb 0 (times n ns) ≡ true → (m : ℕ) → has (n ∷ ns) m ≡ has ns m
-  has_known e m = has_more m ∙ ⊎_elim (λ (h : n ≡ m). let f : ltb 0 (times m ns) ≡ true = subst (λ k. ltb 0 (times k ns) ≡ true) h e in rw (eq-eqb n m h, f) refl) (λ (h : n ≡ m → ⊥). rw (ne_eqb n m h) refl) (cases_eq n m)
-
-  -- it did not
-  has_new : ltb 0 (times n ns) ≡ false → (m : ℕ) → has (n ∷ ns) m ≡ cond (eqb n m) 1 0 + has ns m
-  has_new e m = has_more m ∙ ⊎_elim (λ (h : n ≡ m). let f : ltb 0 (times m ns) ≡ false = subst (λ k. ltb 0 (times k ns) ≡ false) h e in rw (eq-eqb n m h, f) (omega arith)) (λ (h : n ≡ m → ⊥). rw (ne_eqb n m h) (omega arith)) (cases_eq n m)
+  -- and one that a list has not is there besides
+  has_new : times n ns ≡ 0 → (m : ℕ) → has (n ∷ ns) m ≡ cond (eqb n m) 1 0 + has ns m
+  has_new none m = grind (arith, nat_tests, times_cons m n ns)
 
 -- and how many of them are of the list is how many different numbers it has
 pub all_different : (ns : List ℕ) (rs : List TallyRecord) → OneEach ns rs → sum_by (λ (r : TallyRecord). has ns r.number) rs ≡ different ns
@@ -75,8 +65,8 @@ all_different (n ∷ ns) rs one = go (all_different ns rs (one_others n ns rs on
   where
     go : sum_by (λ (r : TallyRecord). has ns r.number) rs ≡ different ns → (t : Bool) → ltb 0 (times n ns) ≡ t → sum_by (λ (r : TallyRecord). has (n ∷ ns) r.number) rs ≡ cond t 0 1 + different ns
     go others true e =
-        let same : sum_by (λ (r : TallyRecord). has (n ∷ ns) r.number) rs ≡ sum_by (λ (r : TallyRecord). has ns r.number) rs = λ i. sum_by (λ (r : TallyRecord). has_known n ns e r.number i) rs in
+        let same : sum_by (λ (r : TallyRecord). has (n ∷ ns) r.number) rs ≡ sum_by (λ (r : TallyRecord). has ns r.number) rs = λ i. sum_by (λ (r : TallyRecord). has_known n ns (ltb-true 0 (times n ns) e) r.number i) rs in
         omega (arith, same, others)
     go others false e =
-        let both = sum_by_both (λ (r : TallyRecord). cond (eqb n r.number) 1 0) (λ (r : TallyRecord). has ns r.number) (λ (r : TallyRecord). has (n ∷ ns) r.number) (λ r. has_new n ns e r.number) rs in
+        let both = sum_by_both (λ (r : TallyRecord). cond (eqb n r.number) 1 0) (λ (r : TallyRecord). has ns r.number) (λ (r : TallyRecord). has (n ∷ ns) r.number) (λ r. has_new n ns (omega (arith, ltb-false 0 (times n ns) e)) r.number) rs in
         omega (arith, one_first n ns rs one, others)

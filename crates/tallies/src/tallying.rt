@@ -65,6 +65,6 @@ fn write_front(records: &mut [TallyRecord], counts: &[TallyRecord]) -> Result<u3
     if records.len() < n {
         return Err(Refusal::NoRoom);
     }
-    records[0..n].copy_from_slice(counts);
+    records[..n].copy_from_slice(counts);
     Ok(n as u32)
 }
