@@ -4,7 +4,7 @@ use runs::{Excerpt, Run};
 use std::alloc::Global;
 use std::process::Abort;
 use std::test::Fail;
-use tallies::{TallyRecord, tally};
+use tallies::{TallyRecord, tally, tally_records};
 use trials::Notch;
 
 const BLANK: TallyRecord = TallyRecord {
@@ -12,40 +12,35 @@ const BLANK: TallyRecord = TallyRecord {
     times: 7777,
 };
 
-// How often a record stands among the first `n`.
-fn standing(records: &[TallyRecord], n: usize, number: u32, times: u32) -> u32 {
-    let mut found = 0u32;
-    for r in records.iter().take(n) {
-        if r.number == number && r.times == times {
-            found = found.saturating_add(1);
-        }
+// That these are just the records expected, in whatever order.
+fn stand(rt: &impl Abort, records: &[TallyRecord], expected: &[(u32, u32)]) {
+    assert_eq!(rt; records.len(), expected.len());
+    for &(number, times) in expected {
+        let record = TallyRecord { number, times };
+        assert_eq!(rt; records.iter().filter(|r| **r == record).count(), 1);
     }
-    found
 }
 
-// That the tally of a run has just these records, in whatever order, and leaves the others alone;
-// and that it writes none into a table that is one too short.
+// That the tally of a run has just these records, and leaves the others of a table alone; and that
+// it writes none into a table that is one too short.
 fn tallies<R: Run>(
     rt: &impl Abort,
     heap: Global,
     run: &R,
     expected: &[(u32, u32)],
 ) -> Result<(), Fail> {
+    stand(rt, tally_records(heap, run)?.as_slice(), expected);
     let mut records = [BLANK; 8];
     let n = tally(heap, run, &mut records)? as usize;
     assert_eq!(rt; n, expected.len());
-    for (number, times) in expected {
-        assert_eq!(rt; standing(&records, n, *number, *times), 1);
-    }
-    for r in records.iter().skip(n) {
-        assert!(rt; *r == BLANK);
-    }
+    stand(rt, &records[..n], expected);
+    assert!(rt; records.iter().skip(n).all(|r| *r == BLANK));
     let mut short = [BLANK; 8];
     if n > 0 && n < 8 {
         let refused = tally(heap, run, &mut short[0..n - 1]);
-        assert!(rt; matches!(refused, Err(Refusal::NoRoom)));
+        assert_eq!(rt; refused, Err(Refusal::NoRoom));
     }
-    assert_eq!(rt; standing(&short, 8, 7777, 7777), 8);
+    assert_eq!(rt; short, [BLANK; 8]);
     Ok(())
 }
 
@@ -83,15 +78,11 @@ fn a_million_different_numbers(rt: HostRuntime) -> Result<(), Fail> {
     let mut records = vec![in heap; BLANK; 1048576]?;
     let n = tally(heap, &entries.as_slice(), records.as_mut_slice())?;
     assert_eq!(rt; n, 1048576);
-    for r in records.iter() {
-        assert!(rt; r.times == 1);
-    }
+    assert!(rt; records.iter().all(|r| r.times == 1));
     let short = &mut records.as_mut_slice()[0..1048575];
-    assert!(rt;
-        matches!(
-            tally(heap, &entries.as_slice(), short),
-            Err(Refusal::NoRoom)
-        )
+    assert_eq!(rt;
+        tally(heap, &entries.as_slice(), short),
+        Err(Refusal::NoRoom)
     );
     Ok(())
 }
