@@ -12,8 +12,8 @@ const BLANK: TallyRecord = TallyRecord {
     times: 7777,
 };
 
-// That these are just the records expected, in whatever order.
-fn stand(rt: &impl Abort, records: &[TallyRecord], expected: &[(u32, u32)]) {
+// That a table has just the records expected, in whatever order.
+fn has_just(rt: &impl Abort, records: &[TallyRecord], expected: &[(u32, u32)]) {
     assert_eq!(rt; records.len(), expected.len());
     for &(number, times) in expected {
         let record = TallyRecord { number, times };
@@ -29,11 +29,11 @@ fn tallies<R: Run>(
     run: &R,
     expected: &[(u32, u32)],
 ) -> Result<(), Fail> {
-    stand(rt, tally_records(heap, run)?.as_slice(), expected);
+    has_just(rt, tally_records(heap, run)?.as_slice(), expected);
     let mut records = [BLANK; 8];
     let n = tally(heap, run, &mut records)? as usize;
     assert_eq!(rt; n, expected.len());
-    stand(rt, &records[..n], expected);
+    has_just(rt, &records[..n], expected);
     assert!(rt; records.iter().skip(n).all(|r| *r == BLANK));
     let mut short = [BLANK; 8];
     if n > 0 && n < 8 {
@@ -71,10 +71,9 @@ fn tallies_of_steps_flags_and_faults(rt: HostRuntime) -> Result<(), Fail> {
 #[test]
 fn a_million_different_numbers(rt: HostRuntime) -> Result<(), Fail> {
     let heap = rt.alloc();
-    let mut entries = Vec::with_capacity(heap, 1048576)?;
-    for i in 0..1048576u32 {
-        entries.push(Counts::from(i.wrapping_mul(2654435761)))?;
-    }
+    let entries: Vec<Counts> = (0..1048576u32)
+        .map(|i| Counts::from(i.wrapping_mul(2654435761)))
+        .collect(heap)?;
     let mut records = vec![in heap; BLANK; 1048576]?;
     let n = tally(heap, &entries.as_slice(), records.as_mut_slice())?;
     assert_eq!(rt; n, 1048576);
