@@ -1,5 +1,5 @@
 -- A tally has as many records as there are different numbers. Assumes nothing.
-use Rattle.std.proofs.Common.{◌≡◌, ℕ, ◌<◌, ◌≤◌, cond, ltb, List, [], ◌∷◌, length, take, drop, Ok, Err, sum_by, Result, sym, refl, ap, ◌∙◌, subst, inl, arith}
+use Rattle.std.proofs.Common.{◌≡◌, ℕ, ◌<◌, ◌≤◌, cond, eqb, ltb, List, [], ◌∷◌, length, take, drop, Ok, Err, sum_by, Result, sym, refl, ap, ◌∙◌, subst, inl, arith}
 use Rattle.kinds.specs.declared.refusal.Refusal.{Refusal}
 use Rattle.tallies.specs.Counts.{Written}
 use Rattle.tallies.specs.Tallies.{times, different, Tallied, Answered}
@@ -8,8 +8,10 @@ use Rattle.tallies.proofs.Sums.{all_different}
 use Rattle.std.proofs.lemmas.Bool.{lt-ltb}
 use Rattle.std.proofs.lemmas.Bool.Decides.{nat_tests}
 use Rattle.std.proofs.lemmas.List.{take_at, drop_at}
-use Rattle.std.proofs.lemmas.List.Elements.{All-head, All-tail}
+use Rattle.std.proofs.lemmas.List.Elements.{All-head, All-tail, All-weaker}
 use Rattle.std.proofs.lemmas.List.Sums.{sum_by-cons}
+use Rattle.std.proofs.lemmas.List.Sorted.{length_permutation, sum_by-IsPermutation}
+use Rattle.std.specs.List.Sorted.{IsPermutation}
 use Rattle.std.specs.List.{All}
 
 -- each record is for a number that occurs
@@ -22,6 +24,19 @@ each_has ns (r ∷ rs) exact used =
 pub tally_length : (ns : List ℕ) (rs : List TallyRecord) → Tallied ns rs → length rs ≡ different ns
 tally_length ns rs t =
     sym (each_has ns rs t.exact t.used) ∙ all_different ns rs (λ n h. omega (arith, t.distinct n, t.there n h))
+
+-- a tally of the same numbers in any other order is one of these
+pub tally_shuffled : (ns ms : List ℕ) (rs : List TallyRecord) → IsPermutation ns ms → Tallied ms rs → Tallied ns rs
+tally_shuffled ns ms rs sh t = record {
+  distinct = t.distinct;
+  there = λ n h. t.there n (omega (arith, same n));
+  exact = All-weaker (λ (r : TallyRecord). r.times ≡ times r.number ms) (λ (r : TallyRecord). r.times ≡ times r.number ns) (λ r e. e ∙ same r.number) rs t.exact;
+  used = t.used;
+  adds_up = t.adds_up ∙ length_permutation ns ms sh;
+}
+  where
+    same : (n : ℕ) → times n ms ≡ times n ns
+    same n = sum_by-IsPermutation (λ m. cond (eqb n m) 1 0) ns ms sh
 
 different_few : (ns : List ℕ) → different ns ≤ length ns
 different_few [] = omega arith
