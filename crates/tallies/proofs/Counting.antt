@@ -1,116 +1,65 @@
--- A tally kept one number at a time. Assumes nothing.
-use Rattle.std.proofs.Common.{◌≡◌, ℕ, ◌+◌, ◌<◌, ◌≤◌, Bool, true, false, cond, eqb, List, [], ◌∷◌, ◌++◌, length, get_or, set, sum_by, sym, refl, ap, ◌∙◌, subst, arith}
-use Rattle.tallies.specs.Groups.{group}
+-- The entries of a map that counts are a tally. Assumes nothing.
+use Rattle.std.proofs.Common.{◌≡◌, ℕ, ◌+◌, ◌<◌, ◌≤◌, Bool, true, false, cond, eqb, List, [], ◌∷◌, map, Option, Some, None, unwrap_or, is_some, BTreeMap, sym, refl, ap, ◌∙◌, subst, arith}
+use Rattle.tallies.specs.Counts.{Counts, record_of}
 use Rattle.tallies.specs.Tallies.{times, records_for, Tallied}
 use Rattle.tallies.specs.declared.records.TallyRecord.{TallyRecord}
-use Rattle.std.proofs.lemmas.List.Elements.{All-nil, All-cons, All-head, All-tail, All-push, All-set, All-weaker}
-use Rattle.std.proofs.lemmas.List.{append_assoc, length_push}
-use Rattle.std.proofs.lemmas.List.Sums.{sum_by-cons, sum_by-append, sum_by_push, sum_by-set}
-use Rattle.std.proofs.lemmas.Bool.{eqb-true, eq-eqb}
+use Rattle.tallies.proofs.Sums.{OneEach, sum_by_same, all_counted}
+use Rattle.std.proofs.lemmas.Bool.{cond_both}
+use Rattle.std.proofs.lemmas.Bool.Decides.{nat_tests}
+use Rattle.std.proofs.lemmas.List.Elements.{All-map, All-weaker}
+use Rattle.std.proofs.lemmas.List.Sums.{sum_by-cons}
+use Rattle.std.proofs.lemmas.Map.{lookup-none}
+use Rattle.std.proofs.lemmas.Map.Entries.{lookup_head, lookup_tail, none_past_head}
+use Rattle.std.proofs.lemmas.Map.Keys.{IsDistinct-from_sorted, sorted_tail}
+use Rattle.std.proofs.lemmas.Map.Views.{All-found}
+use Rattle.std.specs.BTreeMap.{get, is_at, IsOrdered}
+use Rattle.std.specs.Cmp.{nat_cmp_total, eq_by_cmp_equiv}
 use Rattle.std.specs.List.{All}
+use Rattle.std.specs.List.Sorted.{IsStrictlySortedBy}
+use Rattle.std.specs.Map.{keys_of, lookup}
+use Rattle.std.specs.Ordering.{nat_cmp}
 
--- what the records say of n
-abbrev told : ℕ → TallyRecord → ℕ
-told n r = cond (eqb n r.number) r.times 0
+-- the map's test of a key is equality
+at_number : (n k : ℕ) → is_at (nat_cmp n) k ≡ eqb n k
+at_number n k = grind (arith, nat_tests)
 
-abbrev one_for : ℕ → TallyRecord → ℕ
-one_for n r = cond (eqb n r.number) 1 0
-
-abbrev recorded : ℕ → List TallyRecord → ℕ
-recorded n rs = sum_by (told n) rs
-
-abbrev count_of : TallyRecord → ℕ
-count_of r = r.times
-
--- the loop's form of a tally
-pub record Counted (ns : List ℕ) (rs : List TallyRecord) : Type 0 where
-  pub distinct : (n : ℕ) → records_for n rs ≤ 1
-  pub counts : (n : ℕ) → recorded n rs ≡ times n ns
-  pub used : All (λ (r : TallyRecord). 0 < r.times) rs
-  pub adds_up : sum_by count_of rs ≡ length ns
-
-pub counted_none : Counted [] []
-counted_none = record { distinct = λ n. omega arith; counts = λ n. refl; used = All-nil (λ (r : TallyRecord). 0 < r.times); adds_up = refl }
-
--- where each record counts something, what is not counted has no record
-unused : (n : ℕ) (rs : List TallyRecord) → All (λ (r : TallyRecord). 0 < r.times) rs → recorded n rs ≡ 0 → records_for n rs ≡ 0
-unused n [] u z = refl
-unused n (r ∷ rs) u z =
-    let a = sum_by-cons (told n) r rs in
-    let b = sum_by-cons (one_for n) r rs in
-    let go : (t : Bool) → cond t r.times 0 + recorded n rs ≡ 0 → cond t 1 0 + records_for n rs ≡ 0 = λ t. elim t as (λ t. cond t r.times 0 + recorded n rs ≡ 0 → cond t 1 0 + records_for n rs ≡ 0) [ true ↦ (λ h. absurd (omega (arith, All-head (λ (r : TallyRecord). 0 < r.times) r rs u))) | false ↦ (λ h. omega (arith, unused n rs (All-tail (λ (r : TallyRecord). 0 < r.times) r rs u))) ] in
-    b ∙ go (eqb n r.number) (sym a ∙ z)
-
--- what has no record is not counted
-silent : (n : ℕ) (rs : List TallyRecord) → records_for n rs ≡ 0 → recorded n rs ≡ 0
-silent n [] z = refl
-silent n (r ∷ rs) z =
-    let a = sum_by-cons (told n) r rs in
-    let b = sum_by-cons (one_for n) r rs in
-    let go : (t : Bool) → cond t 1 0 + records_for n rs ≡ 0 → cond t r.times 0 + recorded n rs ≡ 0 = λ t. elim t as (λ t. cond t 1 0 + records_for n rs ≡ 0 → cond t r.times 0 + recorded n rs ≡ 0) [ true ↦ (λ h. absurd (omega arith)) | false ↦ (λ h. omega (arith, silent n rs)) ] in
-    a ∙ go (eqb n r.number) (sym b ∙ z)
-
-module _ (ns : List ℕ) (rs : List TallyRecord) (x : ℕ) (old : Counted ns rs) where
-  -- a new number gets a record
-  pub counted_new : times x ns ≡ 0 → Counted (ns ++ (x ∷ [])) (rs ++ (group x 1 ∷ []))
-  counted_new fresh = record {
-    distinct = λ n. distinct n (eqb n x) refl;
-    counts = λ n. sum_by_push (told n) rs (group x 1) ∙ ap (λ k. k + cond (eqb n x) 1 0) (old.counts n) ∙ sym (sum_by_push (λ m. cond (eqb n m) 1 0) ns x);
-    used = All-push (λ (r : TallyRecord). 0 < r.times) rs (group x 1) old.used (omega arith);
-    adds_up = omega (arith, sum_by_push count_of rs (group x 1), length_push ns x, old.adds_up);
-  }
-    where
-      distinct : (n : ℕ) (t : Bool) → eqb n x ≡ t → records_for n (rs ++ (group x 1 ∷ [])) ≤ 1
-      distinct n true e =
-          let none = unused x rs old.used (old.counts x ∙ fresh) in
-          rw (sum_by_push (one_for n) rs (group x 1), e) (rw (eqb-true n x e) (omega arith))
-      distinct n false e = rw (sum_by_push (one_for n) rs (group x 1), e) (omega (arith, old.distinct n))
-
-  -- the record of a number grows by one
-  pub counted_more : (j : ℕ) (d : TallyRecord) → j < length rs → (get_or rs j d).number ≡ x → Counted (ns ++ (x ∷ [])) (set rs j (group x ((get_or rs j d).times + 1)))
-  counted_more j d within same = record {
-    distinct = λ n. let s = sum_by-set (one_for n) rs j new d within in let e = ap (λ m. cond {A = ℕ} (eqb n m) 1 0) same in omega (arith, old.distinct n);
-    counts = λ n. counts n (eqb n x) refl;
-    used = All-set (λ (r : TallyRecord). 0 < r.times) rs j new (omega arith) old.used;
-    adds_up = omega (arith, sum_by-set count_of rs j new d within, length_push ns x, old.adds_up);
-  }
-    where
-      new : TallyRecord
-      new = group x ((get_or rs j d).times + 1)
-
-      counts : (n : ℕ) (t : Bool) → eqb n x ≡ t → recorded n (set rs j new) ≡ times n (ns ++ (x ∷ []))
-      counts n true e =
-          let e' : eqb n (get_or rs j d).number ≡ true = ap (eqb n) same ∙ e in
-          let s = rw (e', e) at (sum_by-set (told n) rs j new d within) in
-          let p = rw e at (sum_by_push (λ m. cond (eqb n m) 1 0) ns x) in
-          omega (arith, old.counts n)
-      counts n false e =
-          let e' : eqb n (get_or rs j d).number ≡ false = ap (eqb n) same ∙ e in
-          let s = rw (e', e) at (sum_by-set (told n) rs j new d within) in
-          let p = rw e at (sum_by_push (λ m. cond (eqb n m) 1 0) ns x) in
-          omega (arith, old.counts n)
-
--- under distinct numbers each record says what all of them say of its number
-own : (pre rs : List TallyRecord) → ((n : ℕ) → records_for n (pre ++ rs) ≤ 1) → All (λ (r : TallyRecord). r.times ≡ recorded r.number (pre ++ rs)) rs
-own pre [] d = All-nil (λ (r : TallyRecord). r.times ≡ recorded r.number (pre ++ []))
-own pre (r ∷ rs) d = All-cons (λ (r' : TallyRecord). r'.times ≡ recorded r'.number (pre ++ (r ∷ rs))) r rs here (subst (λ all. All (λ (q : TallyRecord). q.times ≡ recorded q.number all) rs) (append_assoc pre (r ∷ []) rs) (own (pre ++ (r ∷ [])) rs (λ n. subst (λ l. records_for n l ≤ 1) (sym (append_assoc pre (r ∷ []) rs)) (d n))))
+-- a number has a record if it is a key, and one only, since the keys rise
+records_at : (n : ℕ) (es : List (ℕ × ℕ)) → IsStrictlySortedBy nat_cmp (keys_of es) → records_for n (map record_of es) ≡ cond (is_some (lookup (is_at (nat_cmp n)) es)) 1 0
+records_at n [] rising = refl
+records_at n (e ∷ es) rising = go (records_at n es (sorted_tail nat_cmp e.0 (keys_of es) rising)) (eqb n e.0) refl
   where
-    here : r.times ≡ recorded r.number (pre ++ (r ∷ rs))
-    here =
-        let e : eqb r.number r.number ≡ true = eq-eqb r.number r.number refl in
-        let a = sum_by-append (one_for r.number) pre (r ∷ rs) in
-        let b = sum_by-cons (one_for r.number) r rs ∙ ap (λ t. cond t 1 0 + records_for r.number rs) e in
-        let before = silent r.number pre (omega (arith, d r.number)) in
-        let behind = silent r.number rs (omega (arith, d r.number)) in
-        let c = sum_by-append (told r.number) pre (r ∷ rs) in
-        let f = sum_by-cons (told r.number) r rs ∙ ap (λ t. cond t r.times 0 + recorded r.number rs) e in
-        omega arith
+    here : records_for n (map record_of (e ∷ es)) ≡ cond (eqb n e.0) 1 0 + records_for n (map record_of es)
+    here = sum_by-cons (λ (r : TallyRecord). cond (eqb n r.number) 1 0) (record_of e) (map record_of es)
 
-pub tallied : (ns : List ℕ) (rs : List TallyRecord) → Counted ns rs → Tallied ns rs
-tallied ns rs c = record {
-  distinct = c.distinct;
-  there = λ n h. let no : records_for n rs ≡ 0 → ⊥ = λ z. omega (arith, silent n rs z, c.counts n) in omega arith;
-  exact = All-weaker _ (λ (r : TallyRecord). r.times ≡ times r.number ns) (λ r e. e ∙ c.counts r.number) rs (own [] rs c.distinct);
-  used = c.used;
-  adds_up = c.adds_up;
-}
+    go : records_for n (map record_of es) ≡ cond (is_some (lookup (is_at (nat_cmp n)) es)) 1 0 → (t : Bool) → eqb n e.0 ≡ t → records_for n (map record_of (e ∷ es)) ≡ cond (is_some (lookup (is_at (nat_cmp n)) (e ∷ es))) 1 0
+    go others true h =
+        let at : is_at (nat_cmp n) e.0 ≡ true = at_number n e.0 ∙ h in
+        let none = lookup-none (is_at (nat_cmp n)) es (none_past_head (eq_by_cmp_equiv nat_cmp_total) n e es (IsDistinct-from_sorted nat_cmp (keys_of (e ∷ es)) rising) at) in
+        rw (lookup_head (is_at (nat_cmp n)) e es at, here, h, others, none) refl
+    go others false h =
+        let at : is_at (nat_cmp n) e.0 ≡ false = at_number n e.0 ∙ h in
+        rw (lookup_tail (is_at (nat_cmp n)) e es at, here, h) (omega (arith, others))
+
+module _ (ns : List ℕ) (m : BTreeMap ℕ ℕ) (counts : Counts ns m) (rising : IsOrdered nat_cmp m) where
+  one_each : OneEach ns (map record_of m.entries)
+  one_each n h = records_at n m.entries rising ∙ some (get nat_cmp m n) (counts.exact n)
+    where
+      some : (o : Option ℕ) → unwrap_or o 0 ≡ times n ns → cond {A = ℕ} (is_some o) 1 0 ≡ 1
+      some None e = absurd (omega arith)
+      some (Some v) e = refl
+
+  exact : All (λ (r : TallyRecord). r.times ≡ times r.number ns) (map record_of m.entries)
+  exact = All-map (λ (r : TallyRecord). r.times ≡ times r.number ns) record_of m.entries (All-weaker (λ (e : ℕ × ℕ). get nat_cmp m e.0 ≡ Some e.1) (λ (e : ℕ × ℕ). e.1 ≡ times e.0 ns) (λ e h. ap (λ o. unwrap_or o 0) (sym h) ∙ counts.exact e.0) m.entries (All-found nat_cmp_total m rising))
+
+  entries_tallied : Tallied ns (map record_of m.entries)
+  entries_tallied = record {
+    distinct = λ n. rw (records_at n m.entries rising) (cond_both (is_some (get nat_cmp m n)) 1 0 (λ k. k ≤ 1) (λ _. omega arith) (λ _. omega arith));
+    there = λ n h. omega (arith, one_each n h);
+    exact = exact;
+    used = All-map (λ (r : TallyRecord). 0 < r.times) record_of m.entries (All-weaker (λ (e : ℕ × ℕ). get nat_cmp m e.0 ≡ Some e.1) (λ (e : ℕ × ℕ). 0 < e.1) (λ e h. subst (λ o. 0 < unwrap_or o 1) h (counts.used e.0)) m.entries (All-found nat_cmp_total m rising));
+    adds_up = sum_by_same (λ (r : TallyRecord). r.times) (λ (r : TallyRecord). times r.number ns) (map record_of m.entries) exact ∙ all_counted ns (map record_of m.entries) one_each;
+  }
+
+-- records of the entries, whichever name their list and that of the numbers go by
+pub tallied : {ns ms : List ℕ} {m : BTreeMap ℕ ℕ} {rs : List TallyRecord} → Counts ms m → IsOrdered nat_cmp m → rs ≡ map record_of m.entries → ms ≡ ns → Tallied ns rs
+tallied counts rising each same = rw (each, sym same) (entries_tallied _ _ counts rising)

@@ -1,3 +1,3 @@
 pub mod Counting
 pub mod Distinct
-pub mod Grouping
+pub mod Sums

@@ -5,4 +5,4 @@ mod records;
 mod tallying;
 
 pub use records::TallyRecord;
-pub use tallying::tally;
+pub use tallying::{tally, tally_records};

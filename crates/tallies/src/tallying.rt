@@ -1,14 +1,16 @@
 //! The tally of a run.
-ghost use Rattle.std.specs.Prelude.{◌≡◌, ◌+◌, ◌^◌, ◌<◌, map, length, MatchResult};
 ghost use Rattle.kinds.specs.Refusals.{refusal};
-ghost use Rattle.tallies.specs.Groups.{Noted, Written, last_of};
+ghost use Rattle.std.specs.BTreeMap.{IsOrdered};
+ghost use Rattle.std.specs.Ordering.{nat_cmp};
+ghost use Rattle.std.specs.Prelude.{◌≡◌, ◌^◌, ◌<◌, IfOk, map, length, MatchResult};
+ghost use Rattle.tallies.specs.Counts.{Counts, record_of, Written};
 ghost use Rattle.tallies.specs.Tallies.{Answered, Tallied};
-ghost use Rattle.std.specs.List.Sorted.{IsNonDecreasing};
 
 use crate::records::TallyRecord;
 use kinds::Refusal;
 use runs::{Run, numbers_of};
-use std::alloc::Global;
+use std::alloc::{AllocError, Global};
+use std::collections::BTreeMap;
 
 /// Writes one record for each different number of the run, with how often it occurs, into the
 /// front of `records`, and answers how many. Refused with 17 when there are too few records, and
@@ -17,17 +19,41 @@ use std::alloc::Global;
 pub fn tally<R: Run>(heap: Global, run: &R, records: &mut [TallyRecord]) -> Result<u32, Refusal>
     ensures { Answered (map R.Entry.Kind.number (R.Run.entries run.now)) records.old records.new result }
 {
-    let counts = counted(heap, run)?;
-    write_front(records, counts.as_slice())
+    let tallied = tally_records(heap, run)?;
+    write_front(records, tallied.as_slice())
 }
 
-// The records of a run.
-fn counted<R: Run>(heap: Global, run: &R) -> Result<Vec<TallyRecord>, Refusal>
-    ensures { MatchResult result (λ v. Tallied (map R.Entry.Kind.number (R.Run.entries run.now)) v.items × (length v.items < 2 ^ 32)) (λ f. f ≡ refusal 24) }
+/// One record for each different number of the run, with how often it occurs. Refused with 24, and
+/// only for want of memory. In which order the records stand is not promised.
+pub fn tally_records<R: Run>(heap: Global, run: &R) -> Result<Vec<TallyRecord>, Refusal>
+    ensures { MatchResult result (λ v. Tallied (map R.Entry.Kind.number (R.Run.entries run.now)) v.items) (λ f. f ≡ refusal 24) }
 {
-    let mut numbers = numbers_of(heap, run)?;
-    numbers.sort_unstable();
-    grouped(heap, numbers.as_slice())
+    let numbers = numbers_of(heap, run)?;
+    let counts = counted(heap, numbers.as_slice())?;
+    Ok(as_records(heap, &counts)?)
+}
+
+// How often each number occurs.
+fn counted(heap: Global, numbers: &[u32]) -> Result<BTreeMap<u32, u32>, AllocError>
+    requires { length numbers.now < 2 ^ 32 }
+    ensures { IfOk result (Counts numbers.now) }
+{
+    let mut counts = BTreeMap::new(heap);
+    for number in numbers {
+        *counts.entry(*number)?.or_insert(0) += 1;
+    }
+    Ok(counts)
+}
+
+// A record for each number that is counted.
+fn as_records(heap: Global, counts: &BTreeMap<u32, u32>) -> Result<Vec<TallyRecord>, AllocError>
+    ensures each { IfOk result (λ v. v.items ≡ map record_of counts.now.entries) }
+    ensures apart { IsOrdered nat_cmp counts.now }
+{
+    counts
+        .iter()
+        .map(|(&number, &times)| TallyRecord { number, times })
+        .collect(heap)
 }
 
 // Copies all of `counts` to the front of `records`, if there are so many.
@@ -39,37 +65,6 @@ fn write_front(records: &mut [TallyRecord], counts: &[TallyRecord]) -> Result<u3
     if records.len() < n {
         return Err(Refusal::NoRoom);
     }
-    records[0..n].copy_from_slice(counts);
+    records[..n].copy_from_slice(counts);
     Ok(n as u32)
-}
-
-// A record for each different number of a list that rises.
-fn grouped(heap: Global, sorted: &[u32]) -> Result<Vec<TallyRecord>, Refusal>
-    requires rising { IsNonDecreasing sorted.now }
-    requires few { length sorted.now < 2 ^ 32 }
-    ensures { MatchResult result (λ v. Tallied sorted.now v.items × (length v.items < 2 ^ 32)) (λ f. f ≡ refusal 24) }
-{
-    let mut groups = Vec::new(heap);
-    for n in sorted {
-        note(&mut groups, *n)?;
-    }
-    Ok(groups)
-}
-
-// One number more: the last group grows by one if it is that number's, else a new one begins.
-fn note(groups: &mut Vec<TallyRecord>, n: u32) -> Result<(), Refusal>
-    requires { (last_of (groups.old.items)).times + 1 < 2 ^ 32 }
-    ensures { MatchResult result (λ _. Noted groups.old.items n groups.new.items) (λ f. f ≡ refusal 24) }
-{
-    let count = groups.len();
-    if count > 0 && groups[count - 1].number == n {
-        let times = groups[count - 1].times + 1;
-        groups[count - 1] = TallyRecord { number: n, times };
-        return Ok(());
-    }
-    groups.push(TallyRecord {
-        number: n,
-        times: 1,
-    })?;
-    Ok(())
 }

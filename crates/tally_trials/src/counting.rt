@@ -4,7 +4,7 @@ use runs::{Excerpt, Run};
 use std::alloc::Global;
 use std::process::Abort;
 use std::test::Fail;
-use tallies::{TallyRecord, tally};
+use tallies::{TallyRecord, tally, tally_records};
 use trials::Notch;
 
 const BLANK: TallyRecord = TallyRecord {
@@ -12,40 +12,35 @@ const BLANK: TallyRecord = TallyRecord {
     times: 7777,
 };
 
-// How often a record stands among the first `n`.
-fn standing(records: &[TallyRecord], n: usize, number: u32, times: u32) -> u32 {
-    let mut found = 0u32;
-    for r in records.iter().take(n) {
-        if r.number == number && r.times == times {
-            found = found.saturating_add(1);
-        }
+// That a table has just the records expected, in whatever order.
+fn has_just(rt: &impl Abort, records: &[TallyRecord], expected: &[(u32, u32)]) {
+    assert_eq!(rt; records.len(), expected.len());
+    for &(number, times) in expected {
+        let record = TallyRecord { number, times };
+        assert_eq!(rt; records.iter().filter(|r| **r == record).count(), 1);
     }
-    found
 }
 
-// That the tally of a run has just these records, in whatever order, and leaves the others alone;
-// and that it writes none into a table that is one too short.
+// That the tally of a run has just these records, and leaves the others of a table alone; and that
+// it writes none into a table that is one too short.
 fn tallies<R: Run>(
     rt: &impl Abort,
     heap: Global,
     run: &R,
     expected: &[(u32, u32)],
 ) -> Result<(), Fail> {
+    has_just(rt, tally_records(heap, run)?.as_slice(), expected);
     let mut records = [BLANK; 8];
     let n = tally(heap, run, &mut records)? as usize;
     assert_eq!(rt; n, expected.len());
-    for (number, times) in expected {
-        assert_eq!(rt; standing(&records, n, *number, *times), 1);
-    }
-    for r in records.iter().skip(n) {
-        assert!(rt; *r == BLANK);
-    }
+    has_just(rt, &records[..n], expected);
+    assert!(rt; records.iter().skip(n).all(|r| *r == BLANK));
     let mut short = [BLANK; 8];
     if n > 0 && n < 8 {
         let refused = tally(heap, run, &mut short[0..n - 1]);
-        assert!(rt; matches!(refused, Err(Refusal::NoRoom)));
+        assert_eq!(rt; refused, Err(Refusal::NoRoom));
     }
-    assert_eq!(rt; standing(&short, 8, 7777, 7777), 8);
+    assert_eq!(rt; short, [BLANK; 8]);
     Ok(())
 }
 
@@ -53,22 +48,18 @@ fn tallies<R: Run>(
 fn tallies_of_steps_flags_and_faults(rt: HostRuntime) -> Result<(), Fail> {
     let heap = rt.alloc();
     let steps: &[Steps] = &[
-        Steps::new(4),
-        Steps::new(-4),
-        Steps::new(4),
-        Steps::new(0),
-        Steps::new(4),
+        Steps::from(4),
+        Steps::from(-4),
+        Steps::from(4),
+        Steps::from(0),
+        Steps::from(4),
     ];
     tallies(&rt, heap, &steps, &[(8, 3), (7, 1), (0, 1)])?;
     tallies(&rt, heap, &Excerpt::new(steps, 1, 2), &[(8, 1), (7, 1)])?;
-    let flags: &[Flags] = &[Flags::new(255), Flags::new(0), Flags::new(255)];
+    let flags: &[Flags] = &[Flags::from(255), Flags::from(0), Flags::from(255)];
     tallies(&rt, heap, &flags, &[(255, 2), (0, 1)])?;
-    let Some(ten) = Faults::new(10) else {
-        return Err(Fail::new("10 is a fault"));
-    };
-    let Some(nine) = Faults::new(9) else {
-        return Err(Fail::new("9 is a fault"));
-    };
+    let ten = Faults::try_from(10)?;
+    let nine = Faults::try_from(9)?;
     let faults: &[Faults] = &[ten, nine, ten, ten];
     tallies(&rt, heap, &faults, &[(10, 3), (9, 1)])?;
     let notches: &[Notch] = &[Notch::turned(3), Notch::turned(8), Notch::turned(1)];
@@ -80,22 +71,17 @@ fn tallies_of_steps_flags_and_faults(rt: HostRuntime) -> Result<(), Fail> {
 #[test]
 fn a_million_different_numbers(rt: HostRuntime) -> Result<(), Fail> {
     let heap = rt.alloc();
-    let mut entries = Vec::with_capacity(heap, 1048576)?;
-    for i in 0..1048576u32 {
-        entries.push(Counts::new(i.wrapping_mul(2654435761)))?;
-    }
+    let entries: Vec<Counts> = (0..1048576u32)
+        .map(|i| Counts::from(i.wrapping_mul(2654435761)))
+        .collect(heap)?;
     let mut records = vec![in heap; BLANK; 1048576]?;
     let n = tally(heap, &entries.as_slice(), records.as_mut_slice())?;
     assert_eq!(rt; n, 1048576);
-    for r in records.iter() {
-        assert!(rt; r.times == 1);
-    }
+    assert!(rt; records.iter().all(|r| r.times == 1));
     let short = &mut records.as_mut_slice()[0..1048575];
-    assert!(rt;
-        matches!(
-            tally(heap, &entries.as_slice(), short),
-            Err(Refusal::NoRoom)
-        )
+    assert_eq!(rt;
+        tally(heap, &entries.as_slice(), short),
+        Err(Refusal::NoRoom)
     );
     Ok(())
 }
