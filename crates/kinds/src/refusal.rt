@@ -46,15 +46,10 @@ pub enum Refusal {
 impl Refusal {
     /// The number of the refusal, as the books and the programs print it. No two refusals share a
     /// number.
+    #[tactic(auto, using(crate::proofs::Cases::numbered))]
     pub fn number(self) -> u8
         ensures value { result ≡ number self }
         ensures numbered { Numbered }
-    {
-        self.code()
-    }
-
-    fn code(self) -> u8
-        ensures { result ≡ number self }
     {
         self as u8
     }
