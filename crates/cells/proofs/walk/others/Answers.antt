@@ -1,4 +1,4 @@
-use Rattle.std.proofs.Common.{◌-◌, ap, ◌∙◌, arith, pow_pos}
+use Rattle.std.proofs.Common.{◌-◌, ap, ◌∙◌, arith}
 use Rattle.cells.proofs.Decoding.{power_within, besides_more}
 use Rattle.cells.proofs.walk.others.Goals as goal
 use Rattle.cells.specs.Cells.{cell}
@@ -11,9 +11,6 @@ pub invariant_of-before : goal.invariant_of-before
 invariant_of-before g c =
     let h = power_within c.args.place.number c.loop-t.t c.args.place.from_one c.args.place.fits c.loop-t-test.true in
     record { from_one = omega (arith, h, c.power.ensures); fits = omega (arith, c.args.place.fits) }
-
-pub cell_of-requires : goal.cell_of-requires
-cell_of-requires g c = omega (arith, c.power.ensures, pow_pos c.loop-t.t)
 
 pub loop-t-preserved : goal.loop-t-preserved
 loop-t-preserved g c =

@@ -19,19 +19,13 @@ returns-in_err-place-clause-refuses g c f is =
     let none = entry_outside (written g.K.Reckoned c.args.self.now) c.args.place c.args.self.now.count (sym (length-decoded g.K.Reckoned _ _)) c.in_err-place.ensures.1 in
     (p.1 ∙ ap Err (p.2 ∙ c.in_err-place.ensures.0) ∙ sym none ∙ is, refl)
 
-pub returns : goal.returns
-returns g c =
+pub returns-clause-puts : goal.returns-clause-puts
+returns-clause-puts g c old is =
     let R = g.K.Reckoned in
     let s = c.args.self.now in
     let here = c.entry-old.result in
     let at = c.in_ok-place.ensures.0 in
     let there : entry_at (written R s) c.args.place ≡ Ok here = ap (entry_at (written R s)) (sym at) ∙ c.entry-old.ensures in
-    record {
-      counts = c.raise_at.ensures.counts;
-      puts = λ old is.
-          let same : here ≡ old = cc in
-          let made : R.join here c.join.result ≡ c.args.entry = ap (R.join here) (c.join.ensures ∙ ap (R.join c.args.entry) c.inverse.ensures) ∙ made_good (group_of g.met.K.Reckoned) here c.args.entry in
-          (ap Ok same, c.raise_at.ensures.joins here c.entry-old.ensures ∙ ap (λ i. set (written R s) (i - 1) (R.join here c.join.result)) at ∙ ap (set (written R s) (c.args.place - 1)) made);
-      refuses = λ f is. let z : ◌≡◌ {A = ℕ} 0 1 = cc in absurd (omega arith);
-      table = c.raise_at.ensures.table;
-    }
+    let same : here ≡ old = cc in
+    let made : R.join here c.join.result ≡ c.args.entry = ap (R.join here) (c.join.ensures ∙ ap (R.join c.args.entry) c.inverse.ensures) ∙ made_good (group_of g.met.K.Reckoned) here c.args.entry in
+    (ap Ok same, c.raise_at.ensures.joins here c.entry-old.ensures ∙ ap (λ i. set (written R s) (i - 1) (R.join here c.join.result)) at ∙ ap (set (written R s) (c.args.place - 1)) made)

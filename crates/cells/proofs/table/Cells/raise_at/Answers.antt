@@ -4,12 +4,7 @@ use Rattle.cells.specs.Cells.{Raised}
 use Rattle.kinds.proofs.Grouped.{group_of}
 use Rattle.std.proofs.lemmas.List.{with_items_is}
 use Rattle.std.specs.Vec.{with_items}
-use Rattle.std.proofs.Common.{vec_items, sym, refl, ◌∙◌, subst, arith}
-
-pub raise-requires : goal.raise-requires
-raise-requires g c =
-    let s = c.args.self.now in
-    record { last = omega (arith, s.within, c.as_mut_slice.ensures.len); few = omega (arith, s.within) }
+use Rattle.std.proofs.Common.{vec_items, sym, refl, ◌∙◌, subst}
 
 pub returns : goal.returns
 returns g c =

@@ -2,8 +2,7 @@ use Rattle.kinds.specs.declared.refusal.Refusal.TheVariants.{WrongSlip}
 use Rattle.ledgers.proofs.Fitting.{held_unit, no_slip, told_none}
 use Rattle.ledgers.proofs.ledger.Ledger.give_up.Goals as goal
 use Rattle.sheets.specs.History.{give_up}
-use Rattle.sheets.specs.Sheets.{Follows, number_told, without_slip}
-use Rattle.std.proofs.Common.{◌≡◌, Some, None, sym, refl, ap, ◌∙◌, subst}
+use Rattle.std.proofs.Common.{◌≡◌, Some, None, rules, sym, refl, ap, ◌∙◌}
 use Rattle.std.proofs.lemmas.Result.{err_from_is_err_and}
 use Rattle.std.specs.Result.{result_ok}
 
@@ -22,4 +21,4 @@ returns-clause-follows_history g c =
     let slip = c.in_ok-slip.slip in
     let there : c.take.result ≡ Some slip = c.ok_or.ensures.ok_part ∙ ap result_ok c.in_ok-slip.was in
     let same : slip.unit ≡ s.unit = held_unit c.args.self.now.slip slip s.unit s.parked (sym c.take.ensures.value ∙ there) c.args.self.now.held in
-    rw c.held_again.ensures.answers (subst (λ u. Follows g.K.Kind g.K.Reckoned (give_up u) s c.give_up-told.new.self (number_told (without_slip c.give_up-told.result))) same c.give_up-told.ensures.follows_history)
+    rw (c.held_again.ensures.answers, ← same) (search rules)

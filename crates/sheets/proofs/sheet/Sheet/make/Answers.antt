@@ -5,11 +5,7 @@ use Rattle.sheets.proofs.sheet.Sheet.make.Goals as goal
 use Rattle.sheets.specs.History.{begun}
 use Rattle.std.proofs.Common.{vec_len, refl, ap}
 
-pub returns : goal.returns
-returns g c =
+pub returns-clause-begins_history : goal.returns-clause-begins_history
+returns-clause-begins_history g c =
     let R = g.K.Reckoned in
-    record {
-      begins_history = keeps g.K.Kind R (group_of g.met.K.Reckoned) (begun R c.args.unit (own (vec_len c.args.table))) _ refl (ap own c.over.ensures.long) (none_written R _ _ c.over.ensures.empty) c.over.ensures.cleared refl refl;
-      long = c.over.ensures.long;
-      beyond = c.over.ensures.beyond;
-    }
+    keeps g.K.Kind R (group_of g.met.K.Reckoned) (begun R c.args.unit (own (vec_len c.args.table))) _ refl (ap own c.over.ensures.long) (none_written R _ _ c.over.ensures.empty) c.over.ensures.cleared refl refl

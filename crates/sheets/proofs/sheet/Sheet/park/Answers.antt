@@ -2,24 +2,22 @@ use Rattle.kinds.proofs.Grouped.{group_of}
 use Rattle.kinds.specs.Refusals.{refusal}
 use Rattle.kinds.specs.Totals.{total}
 use Rattle.sheets.proofs.Keeping.{follows_no, follows_out, parked}
-use Rattle.sheets.proofs.Parked.{parked_already, parked_full, parked_fits, untouched}
+use Rattle.sheets.proofs.Parked.{parked_already, parked_full, parked_fits}
 use Rattle.sheets.proofs.sheet.Sheet.park.Goals as goal
 use Rattle.sheets.specs.History.{park}
 use Rattle.sheets.specs.Sheets.{entries_of}
 use Rattle.sheets.specs.declared.answer.Answer.TheVariants.{Slip}
 use Rattle.std.proofs.Common.{◌≡◌, [], ◌∷◌, ◌++◌, Some, sym, refl, ap, ◌∙◌}
 
-pub returns-then-is_some : goal.returns-then-is_some
-returns-then-is_some g c =
+pub returns-then-is_some-clause-follows_history : goal.returns-then-is_some-clause-follows_history
+returns-then-is_some-clause-follows_history g c =
     let s = c.args.self.now in
-    let no = parked_already s c.if-is_some.ensures in
-    record { refuses = sym no; stays = record { unit = refl; table = untouched g.K.Reckoned s.cells }; leaves = refl; follows_history = follows_no g.K.Kind g.K.Reckoned park s (refusal 4) no }
+    follows_no g.K.Kind g.K.Reckoned park s (refusal 4) (parked_already s c.if-is_some.ensures)
 
-pub returns-then-free-lt2 : goal.returns-then-free-lt2
-returns-then-free-lt2 g c =
+pub returns-then-free-lt2-clause-follows_history : goal.returns-then-free-lt2-clause-follows_history
+returns-then-free-lt2-clause-follows_history g c =
     let s = c.args.self.now in
-    let no = parked_full s _ c.if-is_some.ensures c.free.ensures c.if-free-lt2.true in
-    record { refuses = sym no; stays = record { unit = refl; table = untouched g.K.Reckoned s.cells }; leaves = refl; follows_history = follows_no g.K.Kind g.K.Reckoned park s (refusal 2) no }
+    follows_no g.K.Kind g.K.Reckoned park s (refusal 2) (parked_full s _ c.if-is_some.ensures c.free.ensures c.if-free-lt2.true)
 
 pub returns : goal.returns
 returns g c =

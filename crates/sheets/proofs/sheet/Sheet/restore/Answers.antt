@@ -1,20 +1,13 @@
 use Rattle.kinds.proofs.Grouped.{group_of}
 use Rattle.sheets.proofs.Keeping.{follows_back, follows_out, next_count, restored}
-use Rattle.sheets.proofs.Parked.{amount_so, untouched}
+use Rattle.sheets.proofs.Parked.{amount_so}
 use Rattle.sheets.proofs.sheet.Sheet.restore.Goals as goal
 use Rattle.sheets.specs.History.{restore}
-use Rattle.std.proofs.Common.{◌≡◌, Some, sym, refl, ap, ◌∙◌}
+use Rattle.std.proofs.Common.{◌≡◌, Some, sym, refl, ◌∙◌}
 
-pub returns-in_default : goal.returns-in_default
-returns-in_default g c =
-    let no = c.in_default.ensures in
-    let back = c.hand_back.ensures in
-    record {
-      refuses = ap Some back.1 ∙ sym no;
-      stays = record { unit = refl; table = untouched g.K.Reckoned c.args.self.now.cells };
-      leaves = (back.0, refl);
-      follows_history = follows_back g.K.Kind g.K.Reckoned (restore c.args.slip.unit) c.args.self.now c.hand_back.result.refusal 5 back.1 no;
-    }
+pub returns-in_default-clause-follows_history : goal.returns-in_default-clause-follows_history
+returns-in_default-clause-follows_history g c =
+    follows_back g.K.Kind g.K.Reckoned (restore c.args.slip.unit) c.args.self.now c.hand_back.result.refusal 5 c.hand_back.ensures.1 c.in_default.ensures
 
 pub returns : goal.returns
 returns g c =
