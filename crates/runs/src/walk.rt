@@ -59,6 +59,6 @@ impl Parting {
     pub fn gap(self) -> i64
         ensures { result ≡ self.first.value -ℤ self.second.value }
     {
-        i64::from(self.first.value()) - i64::from(self.second.value())
+        i64::from(i32::from(self.first)) - i64::from(i32::from(self.second))
     }
 }
