@@ -1,7 +1,8 @@
 -- A log cut into lines, one after another. Assumes nothing.
-use Rattle.std.proofs.Common.{◌≡◌, ℕ, zero, suc, ◌+◌, ◌<◌, ◌≤◌, List, [], ◌∷◌, ◌++◌, map, length, get_or, take, drop, Some, None, cond, eqb, Result, Vec, Ok, Err, sym, subst, ⊎_elim, ap, ◌∙◌, arith}
-use Rattle.logs.specs.Logs.{lines, grown, Reached, FirstBad, WantsMemory, Reads}
-use Rattle.std.proofs.lemmas.List.{length-map, length-append, take_at, get_or_at, take_all, drop_all}
+use Rattle.std.proofs.Common.{◌≡◌, ℕ, zero, suc, ◌+◌, ◌-◌, ◌<◌, ◌≤◌, List, [], ◌∷◌, ◌++◌, map, length, get_or, take, drop, Some, None, cond, eqb, Result, Vec, Ok, Err, sym, refl, inl, inr, subst, ⊎_elim, ap, ◌∙◌, arith}
+use Rattle.kinds.specs.Refusals.{refusal}
+use Rattle.logs.specs.Logs.{lines, grown, Reached, Reads}
+use Rattle.std.proofs.lemmas.List.{length-map, length-append, take_at, get_or_at, take_all, drop_all, length-drop}
 use Rattle.std.proofs.lemmas.List.Quantifiers.{position-Some}
 use Rattle.std.proofs.lemmas.Bool.{eq-eqb, ne_eqb, eqb-true, false≢true, lt-ltb, cases_lt}
 use Rattle.std.specs.List.{position, position_or_len}
@@ -22,12 +23,14 @@ first_line (b ∷ (c ∷ cs)) (suc n) some within plain found =
     rw (ne_eqb b 10 (plain 0 (omega arith)), rest)
 
 -- the first newline ends the first line
-pub ended_line : (bs : List ℕ) (n : ℕ) → position (λ b. eqb b 10) bs ≡ Some n → lines bs ≡ take n bs ∷ lines (drop (n + 1) bs)
+pub ended_line : (bs : List ℕ) (n : ℕ) → position (λ b. eqb b 10) bs ≡ Some n → lines bs ≡ take n bs ∷ lines (take (length bs - (n + 1)) (drop (n + 1) bs))
 ended_line bs n is =
     let at = position-Some (λ b. eqb b 10) bs n 0 is in
     let behind : suc n ≡ n + 1 = omega arith in
+    let all : length (drop (n + 1) bs) ≤ length bs - (n + 1) = omega (arith, length-drop (n + 1) bs) in
     first_line bs n (omega (arith, at.0)) (omega (arith, at.0)) (λ k h e. false≢true (sym (at.2 k h) ∙ eq-eqb _ 10 e)) (λ _. eqb-true _ 10 at.1)
     ∙ ap (λ k. take n bs ∷ lines (drop k bs)) behind
+    ∙ ap (λ ls. take n bs ∷ lines ls) (sym (take_all _ _ all))
 
 some_none : {n : ℕ} → Some n ≡ None → ⊥
 some_none e = false≢true (sym (ap is_some e))
@@ -52,32 +55,38 @@ pub length-lines : (bs : List ℕ) → length (lines bs) ≤ length bs
 length-lines [] = omega arith
 length-lines (b ∷ bs) = grind (arith, grown_length b (lines bs), length-lines bs)
 
-module _ {L : Type 0} (text : L → List ℕ) (ls : List (List ℕ)) (ds : List L) (l : List ℕ) (rest : List (List ℕ)) (sofar : ls ≡ map text ds ++ (l ∷ rest)) where
-  -- the line behind lines that say something
-  reached : (k : ℕ) → k ≡ length ds + 1 → Reached text ls k
-  reached k count =
+-- a refusal that is handed out
+abbrev pub refused_at : ℕ → ℕ → BadLine
+refused_at line n = record { line = line; refusal = refusal n }
+
+handed_out : {L : Type 0} (text : L → List ℕ) (bs : List ℕ) (r : Result (Vec L Global) BadLine) (f g : BadLine) → IsErrAnd r (λ e. e ≡ f) → f ≡ g → Reads text bs (Err g) → Reads text bs r
+handed_out text bs (Ok said) f g is same reads = absurd is
+handed_out text bs (Err e) f g is same reads = subst (λ x. Reads text bs (Err x)) (sym (is ∙ same)) reads
+
+-- a line behind lines that say something: ds is what they say, n how many they are, and left what was left of the log
+module _ {L : Type 0} (text : L → List ℕ) (bs : List ℕ) (ds : List L) (n : ℕ) (line : List ℕ) (left rest : List (List ℕ)) (read : lines bs ≡ map text ds ++ left) (step : left ≡ line ∷ rest) (count : n ≡ length ds) where
+  sofar : lines bs ≡ map text ds ++ (line ∷ rest)
+  sofar = read ∙ ap (λ ls. map text ds ++ ls) step
+
+  here : line ≡ get_or (lines bs) (length ds) []
+  here = sym (ap (λ xs. get_or xs (length ds) []) sofar ∙ get_or_at (map text ds) line rest [] (length ds) (length-map ds text))
+
+  reached : Reached text (lines bs) (n + 1)
+  reached =
       let len = length-map ds text in
       record {
         before = ds;
-        count = count;
-        within = omega (arith, ap length sofar, length-append (map text ds) (l ∷ rest));
-        good = ap (take (length ds)) sofar ∙ take_at (map text ds) (l ∷ rest) (length ds) len;
+        count = omega (arith, count);
+        within = omega (arith, ap length sofar, length-append (map text ds) (line ∷ rest));
+        good = ap (take (length ds)) sofar ∙ take_at (map text ds) (line ∷ rest) (length ds) len;
       }
 
-  here : l ≡ get_or ls (length ds) []
-  here = sym (ap (λ xs. get_or xs (length ds) []) sofar ∙ get_or_at (map text ds) l rest [] (length ds) (length-map ds text))
-
   -- it says nothing
-  pub bad_line_lem : (k : ℕ) → k ≡ length ds + 1 → ((s : L) → text s ≡ l → ⊥) → FirstBad text ls k
+  pub says_nothing : ((s : L) → text s ≡ line → ⊥) → (r : Result (Vec L Global) BadLine) (f : BadLine) → IsErrAnd r (λ e. e ≡ f) → f ≡ refused_at (n + 1) 6 → Reads text bs r
   unfolding reached
-  bad_line_lem k count none = record { at = reached k count; bad = λ s e. none s (e ∙ sym here) }
+  says_nothing none r f is same = handed_out text bs r f (refused_at (n + 1) 6) is same (inl (refl, record { at = reached; bad = λ s e. none s (e ∙ sym here) }))
 
   -- it says something, and found no memory
-  pub lost_line : (k : ℕ) → k ≡ length ds + 1 → (s : L) → text s ≡ l → WantsMemory text ls k
+  pub finds_no_memory : (s : L) → text s ≡ line → (r : Result (Vec L Global) BadLine) (f : BadLine) → IsErrAnd r (λ e. e ≡ f) → f ≡ refused_at (n + 1) 24 → Reads text bs r
   unfolding reached
-  lost_line k count s is = record { at = reached k count; says = s; good = is ∙ here }
-
--- the refusal that is handed out
-pub handed_out : {L : Type 0} (text : L → List ℕ) (bs : List ℕ) (r : Result (Vec L Global) BadLine) (f g : BadLine) → IsErrAnd r (λ e. e ≡ f) → f ≡ g → Reads text bs (Err g) → Reads text bs r
-handed_out text bs (Ok said) f g is same reads = absurd is
-handed_out text bs (Err e) f g is same reads = subst (λ x. Reads text bs (Err x)) (sym (is ∙ same)) reads
+  finds_no_memory s says r f is same = handed_out text bs r f (refused_at (n + 1) 24) is same (inr (refl, record { at = reached; says = s; good = says ∙ here }))

@@ -24,6 +24,7 @@ impl<'a> Iterator for Lines<'a> {
 }
 
 // The first line and what is left behind its newline, where there is a line.
+#[tactic(auto, using(crate::proofs::Splitting::ended_line, crate::proofs::Splitting::open_line))]
 fn split_line(log: &[u8]) -> Option<(&[u8], &[u8])>
     ensures { MatchOption result (lines log.now ≡ []) (λ cut. lines log.now ≡ cut.0.now ∷ lines cut.1.now) }
 {
