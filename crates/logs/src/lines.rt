@@ -4,8 +4,7 @@ ghost use Rattle.std.specs.Iterator.{YieldsFirstBy, item_count};
 ghost use Rattle.std.specs.Prelude.{◌≡◌, ◌==◌, [], ◌∷◌, MatchOption, position};
 
 /// The lines of a log that are left, each without its newline.
-// `split_inclusive` of a slice makes the same lines, but rattle writes no invariant of a `for` over
-// it in a generic function
+// not `split_inclusive`: rattle takes no invariant of a `for` over it in a generic function
 #[derive(Drop)]
 pub struct Lines<'a>(pub &'a [u8]);
 

@@ -9,7 +9,7 @@ use logs::BadLine;
 use std::fmt;
 
 /// A line of a log that was refused.
-#[derive(Clone, Copy)]
+#[derive(Clone, Copy, PartialEq, Eq, Debug)]
 pub struct Refused<'a> {
     /// The log's name.
     pub name: &'a str,
@@ -29,7 +29,7 @@ impl<'a> fmt::Display for Refused<'a> {
 }
 
 /// How many drives a log has and where it ends, or how many entries a book has and their total.
-#[derive(Clone, Copy)]
+#[derive(Clone, Copy, PartialEq, Eq, Debug)]
 pub struct Summary<'a> {
     /// The log's name.
     pub name: &'a str,
@@ -91,7 +91,7 @@ impl fmt::Display for TotalsGap {
 }
 
 /// Whether the books of two logs agree.
-#[derive(Clone, Copy)]
+#[derive(Clone, Copy, PartialEq, Eq, Debug)]
 pub struct Agreement<'a> {
     /// The name of the first log.
     pub first: &'a str,
