@@ -1,6 +1,9 @@
 //! The kind steps: signed 32-bit drives, joining modulo 2^32.
-ghost use Rattle.std.specs.Prelude.{◌≡◌, ◌^◌, ◌<◌};
+ghost use Rattle.std.specs.Fmt.{signed_decimal};
+ghost use Rattle.std.specs.Prelude.{◌≡◌, ◌^◌, ◌<◌, Some};
 ghost use Rattle.std.specs.Int.Signed.{mag};
+
+use std::fmt;
 
 mod kind;
 
@@ -27,5 +30,15 @@ impl From<Steps> for i32 {
 
     fn from(entry: Steps) -> i32 {
         entry.value
+    }
+}
+
+/// A drive is written as its number of steps.
+impl fmt::Display for Steps {
+    ghost output = { λ steps. Some (signed_decimal steps.value) };
+
+    fn fmt<W: fmt::Write>(&self, f: &mut fmt::Formatter<W>) -> fmt::Result {
+        let value = self.value;
+        write!(f, "{value}")
     }
 }

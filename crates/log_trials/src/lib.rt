@@ -1,5 +1,7 @@
-//! Many cases for numbers in text and for logs: nothing here is part of the product.
+//! Many cases for numbers in text, for logs and for what is printed of them: nothing here is part of the product.
 #![tactic(auto)]
 
 #[cfg(test)]
 mod lines;
+#[cfg(test)]
+mod tally;

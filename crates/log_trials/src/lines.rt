@@ -1,6 +1,6 @@
 //! Logs, good and bad.
-use kinds::Refusal;
-use logs::read_log;
+use kinds::{Refusal, Steps};
+use logs::{BadLine, read_log};
 use numerals::{read_signed, read_unsigned};
 use std::alloc::Global;
 
@@ -47,33 +47,35 @@ fn numbers_are_read_as_written(rt: HostRuntime) {
     }
 }
 
-// The drives of a log added up, or the number of its first bad line below zero.
-fn read(heap: Global, log: &[u8]) -> i64 {
-    match read_log(heap, log) {
-        Ok(drives) => {
-            let mut sum = 0i64;
-            for d in drives.iter() {
-                sum = sum.wrapping_add(i64::from(d.value()));
-            }
-            sum
-        }
-        Err(bad) => match (bad.refusal, i64::try_from(bad.line)) {
-            (Refusal::NotAForm, Ok(line)) => 0i64.wrapping_sub(line),
-            _ => i64::MIN,
-        },
-    }
+// The drives of a log added up, or its first bad line.
+fn read(heap: Global, log: &[u8]) -> Result<i64, BadLine> {
+    let drives: Vec<Steps> = read_log(heap, log)?;
+    Ok(
+        drives.iter().fold(
+            0i64,
+            |sum, drive| sum.wrapping_add(i64::from(i32::from(*drive))),
+        ),
+    )
+}
+
+// That this line is the first that says nothing.
+fn bad(line: u64) -> Result<i64, BadLine> {
+    Err(BadLine {
+        line,
+        refusal: Refusal::NotAForm,
+    })
 }
 
 #[test]
 fn logs_end_with_or_without_a_newline(rt: HostRuntime) {
     let heap = rt.alloc();
-    assert_eq!(rt; read(heap, b""), 0);
-    assert_eq!(rt; read(heap, b"5"), 5);
-    assert_eq!(rt; read(heap, b"5\n-3\n"), 2);
-    assert_eq!(rt; read(heap, b"5\n-3"), 2);
-    assert_eq!(rt; read(heap, b"5\n\n"), -2);
-    assert_eq!(rt; read(heap, b"\n"), -1);
-    assert_eq!(rt; read(heap, b"5\r\n"), -1);
-    assert_eq!(rt; read(heap, b"1\n2\n\xff\n4\n"), -3);
-    assert_eq!(rt; read(heap, b"1\n2\n3\0\n"), -3);
+    assert_eq!(rt; read(heap, b""), Ok(0));
+    assert_eq!(rt; read(heap, b"5"), Ok(5));
+    assert_eq!(rt; read(heap, b"5\n-3\n"), Ok(2));
+    assert_eq!(rt; read(heap, b"5\n-3"), Ok(2));
+    assert_eq!(rt; read(heap, b"5\n\n"), bad(2));
+    assert_eq!(rt; read(heap, b"\n"), bad(1));
+    assert_eq!(rt; read(heap, b"5\r\n"), bad(1));
+    assert_eq!(rt; read(heap, b"1\n2\n\xff\n4\n"), bad(3));
+    assert_eq!(rt; read(heap, b"1\n2\n3\0\n"), bad(3));
 }

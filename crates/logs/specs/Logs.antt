@@ -1,17 +1,11 @@
--- What a log of drives says. Assumes nothing.
+-- What a log says, whatever a line of it can say. Assumes nothing.
 use Rattle.std.specs.Prelude.{◌≡◌, ℕ, ◌+◌, ◌<◌, cond, ◌⊎◌, List, [], ◌∷◌, map, length, take, Ok, Err, vec_items, Result, Vec, ◌==◌, ◌≢◌, slice_index_or}
 use Rattle.kinds.specs.Refusals.{refusal}
-use Rattle.kinds.specs.declared.steps.Steps.{Steps}
 use Rattle.logs.specs.declared.fault.BadLine.{BadLine}
-use Rattle.std.specs.Fmt.{signed_decimal}
 use Rattle.std.specs.declared.alloc.Global.{Global}
 
--- a drive as it is written: its decimal digits, after a minus if it is negative
-abbrev pub text : Steps → List ℕ
-text s = signed_decimal s.value
-
 -- one byte more in front of the first line
-abbrev grown : ℕ → List (List ℕ) → List (List ℕ)
+abbrev pub grown : ℕ → List (List ℕ) → List (List ℕ)
 grown b [] = (b ∷ []) ∷ []
 grown b (l ∷ ls) = (b ∷ l) ∷ ls
 
@@ -20,30 +14,30 @@ abbrev pub lines : List ℕ → List (List ℕ)
 lines [] = []
 lines (b ∷ bs) = cond (b == 10) ([] ∷ lines bs) (grown b (lines bs))
 
--- reading came to line k, counted from 1: the lines before it are drives
-pub record Reached (ls : List (List ℕ)) (k : ℕ) : Type 0 where
-  pub before : List Steps
+-- reading came to line k, counted from 1: the lines before it say something
+pub record Reached {L : Type 0} (text : L → List ℕ) (ls : List (List ℕ)) (k : ℕ) : Type 0 where
+  pub before : List L
   pub count : k ≡ length before + 1
   pub within : length before < length ls
   pub good : take (length before) ls ≡ map text before
 
 -- what stands in the line that was reached
-abbrev pub line_at : {ls : List (List ℕ)} {k : ℕ} → Reached ls k → List ℕ
-line_at {ls} r = slice_index_or ls (length r.before) []
+abbrev pub line_at : {L : Type 0} {text : L → List ℕ} {ls : List (List ℕ)} {k : ℕ} → Reached text ls k → List ℕ
+line_at {ls = ls} r = slice_index_or ls (length r.before) []
 
--- line k is the first that is no drive
-pub record FirstBad (ls : List (List ℕ)) (k : ℕ) : Type 0 where
-  pub at : Reached ls k
-  pub bad : (s : Steps) → text s ≢ line_at at
+-- line k is the first that says nothing
+pub record FirstBad {L : Type 0} (text : L → List ℕ) (ls : List (List ℕ)) (k : ℕ) : Type 0 where
+  pub at : Reached text ls k
+  pub bad : (l : L) → text l ≢ line_at at
 
--- line k is a drive, but there was no memory for it
-pub record WantsMemory (ls : List (List ℕ)) (k : ℕ) : Type 0 where
-  pub at : Reached ls k
-  pub drive : Steps
-  pub good : text drive ≡ line_at at
+-- line k says something, but there was no memory for it
+pub record WantsMemory {L : Type 0} (text : L → List ℕ) (ls : List (List ℕ)) (k : ℕ) : Type 0 where
+  pub at : Reached text ls k
+  pub says : L
+  pub good : text says ≡ line_at at
 
--- what reading a log answers: its drives, each line being one, or the first line that is none
-abbrev pub Reads : List ℕ → Result (Vec Steps Global) BadLine → Type 0
-Reads bs (Ok drives) = map text (vec_items drives) ≡ lines bs
-Reads bs (Err f) =
-    ((f.refusal ≡ refusal 6) × FirstBad (lines bs) f.line) ⊎ ((f.refusal ≡ refusal 24) × WantsMemory (lines bs) f.line)
+-- what reading a log answers: what its lines say, each saying something, or the first line that says nothing
+abbrev pub Reads : {L : Type 0} → (L → List ℕ) → List ℕ → Result (Vec L Global) BadLine → Type 0
+Reads text bs (Ok said) = map text (vec_items said) ≡ lines bs
+Reads text bs (Err f) =
+    ((f.refusal ≡ refusal 6) × FirstBad text (lines bs) f.line) ⊎ ((f.refusal ≡ refusal 24) × WantsMemory text (lines bs) f.line)

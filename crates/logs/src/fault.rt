@@ -2,10 +2,10 @@
 use kinds::Refusal;
 
 /// The first line of a log that was turned down, counted from 1, and why.
-#[derive(Clone, Copy)]
+#[derive(Clone, Copy, PartialEq, Eq, Debug)]
 pub struct BadLine {
     /// Which line.
     pub line: u64,
-    /// 6 where the line is no drive, 24 where there was no memory for it.
+    /// 6 where the line says nothing, 24 where there was no memory for it.
     pub refusal: Refusal,
 }

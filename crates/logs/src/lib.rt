@@ -1,10 +1,12 @@
-//! Logs of drives: one signed number of steps a line; and the lines that are printed of them.
+//! Logs: each line says one thing, such as a drive.
 #![tactic(auto)]
 
+mod drive;
 mod fault;
+mod line;
+mod lines;
 mod reading;
-mod report;
 
 pub use fault::BadLine;
+pub use line::Line;
 pub use reading::read_log;
-pub use report::{bad_line, log_line, parting_line, tally_line};

@@ -1,4 +1,4 @@
-//! Many cases for numbers in text, for logs of seasons and for their books: nothing here is part of the product.
+//! Many cases for logs of seasons and for their books: nothing here is part of the product.
 #![tactic(auto)]
 
 #[cfg(test)]

@@ -1,7 +1,8 @@
 //! The old fault found: a restore that worked from a rounded amount.
 use kinds::Steps;
 use ledgers::agrees;
-use season_logs::read_log;
+use logs::read_log;
+use season_logs::LogLine;
 use seasons::{replay_log, steps_apart};
 use sheets::ClosedSheet;
 use std::alloc::Global;
@@ -18,12 +19,8 @@ const ROUNDED: &[u8] = b"243\n-243\n240\n7\n-247\n244\n-4\n";
 
 // The book of a log and its total.
 fn book_of(heap: Global, log: &[u8]) -> Option<(ClosedSheet<Steps>, Steps)> {
-    let Ok(lines) = read_log(heap, log) else {
-        return None;
-    };
-    let Ok(season) = replay_log(heap, 7, lines.as_slice()) else {
-        return None;
-    };
+    let lines: Vec<LogLine> = read_log(heap, log).ok()?;
+    let season = replay_log(heap, 7, lines.as_slice()).ok()?;
     Some((season.book, season.total))
 }
 

@@ -3,4 +3,5 @@
 
 mod replaying;
 
-pub use replaying::{calls_of, replay_log, steps_apart};
+pub use replaying::{calls_of, replay_log};
+pub use runs::steps_apart;

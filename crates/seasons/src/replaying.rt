@@ -1,7 +1,7 @@
 //! A season's log as a book.
-ghost use Rattle.std.specs.Prelude.{◌≡◌, ◌+◌, ◌^◌, ◌<◌, map, replicate, ◌-ℤ◌, MatchResult};
+ghost use Rattle.std.specs.Prelude.{◌≡◌, map, MatchResult};
 ghost use Rattle.kinds.specs.Refusals.{refusal as numbered};
-ghost use Rattle.kinds.specs.Steps.{none, numbering, reckoned};
+ghost use Rattle.kinds.specs.Steps.{numbering, reckoned};
 ghost use Rattle.ledgers.specs.Law.{Law};
 ghost use Rattle.seasons.specs.Seasons.{call_of, table_for};
 
@@ -10,7 +10,7 @@ use ledgers::{Call, Replayed, replay};
 use season_logs::LogLine;
 use std::alloc::Global;
 
-// The call that a line asks for.
+// The call that a line asks for. No `From`, since neither type is this crate's.
 fn call_of(line: LogLine) -> Call<Steps>
     ensures { result ≡ call_of line }
 {
@@ -26,24 +26,7 @@ fn call_of(line: LogLine) -> Call<Steps>
 pub fn calls_of(heap: Global, lines: &[LogLine]) -> Result<Vec<Call<Steps>>, Refusal>
     ensures { MatchResult result (λ v. v.items ≡ map call_of lines.now) (λ f. f ≡ numbered 24) }
 {
-    let mut calls = Vec::with_capacity(heap, lines.len())?;
-    for line in lines {
-        calls.push_reserved(call_of(*line));
-    }
-    Ok(calls)
-}
-
-// So many zeros, and one.
-fn zeros(heap: Global, lines: usize) -> Result<Vec<Steps>, Refusal>
-    requires { lines < 2 ^ 63 }
-    ensures { MatchResult result (λ v. v.items ≡ replicate (lines + 1) none) (λ f. f ≡ numbered 24) }
-{
-    let count = lines + 1;
-    let mut table = Vec::with_capacity(heap, count)?;
-    for _ in 0..count {
-        table.push_reserved(Steps::zero());
-    }
-    Ok(table)
+    Ok(lines.iter().map(|line| call_of(*line)).collect(heap)?)
 }
 
 /// Replays the log of a season as a book of steps, a drive being entered, with a cell for each line
@@ -53,16 +36,6 @@ pub fn replay_log(heap: Global, unit: u32, lines: &[LogLine]) -> Result<Replayed
     ensures { MatchResult result (λ s. Law numbering reckoned unit (table_for lines.now) (map call_of lines.now) s.book.sheet s.total s.answers.items) (λ f. f ≡ numbered 24) }
 {
     let calls = calls_of(heap, lines)?;
-    let table = zeros(heap, lines.len())?;
-    match replay(heap, unit, table, calls.as_slice()) {
-        Ok(season) => Ok(season),
-        Err(unplayed) => Err(unplayed.refusal),
-    }
-}
-
-/// By how many steps one total stands above another, counted exactly.
-pub fn steps_apart(first: Steps, second: Steps) -> i64
-    ensures { result ≡ first.value -ℤ second.value }
-{
-    i64::from(first.value()) - i64::from(second.value())
+    let table = vec![in heap; Steps::zero(); lines.len() + 1]?;
+    replay(heap, unit, table, calls.as_slice()).map_err(|unplayed| unplayed.refusal)
 }

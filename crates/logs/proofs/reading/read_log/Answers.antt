@@ -1,37 +1,24 @@
-use Rattle.logs.proofs.Splitting.{line_after, bad_line_lem, lost_line, good_line}
+use Rattle.logs.proofs.Splitting.{refused_at, says_nothing, finds_no_memory, length-lines}
 use Rattle.logs.proofs.reading.read_log.Goals as goal
-use Rattle.logs.specs.Logs.{lines, text}
-use Rattle.std.proofs.lemmas.List.{append-nil, drop_all}
-use Rattle.std.proofs.Common.{◌≡◌, true, ◌++◌, map, is_ok, vec_items, sym, refl, ap, ◌∙◌, inl, inr, arith}
+use Rattle.logs.specs.Logs.{lines}
+use Rattle.std.proofs.Common.{◌≡◌, ◌+◌, ◌<◌, ◌^◌, length, vec_items, arith, rules}
 
-pub returns-in_default : goal.returns-in_default
-returns-in_default c =
-    let log = c.args.log.now in
-    let ds = vec_items c.loop-start.drives in
-    let at = c.line_end-end.ensures in
-    let sofar = line_after log c.loop-start.start c.line_end-end.result c.loop-start-test.true at.within.0 at.within.1 at.before at.found ds c.loop-start.invariant.0 in
-    inl (refl, bad_line_lem (lines log) ds _ _ sofar _ (omega (arith, c.len.ensures, c.loop-start.drives.ok.0)) c.in_default.ensures)
+pub loop-before-init-derived : goal.loop-before-init-derived
+loop-before-init-derived g c =
+    let few : length (lines c.args.log.now) < 2 ^ 64 = omega (arith, length-lines c.args.log.now) in
+    search (rules, few)
 
-pub returns-then-is_err : goal.returns-then-is_err
-returns-then-is_err c =
-    let log = c.args.log.now in
-    let ds = vec_items c.loop-start.drives in
-    let at = c.line_end-end.ensures in
-    let sofar = line_after log c.loop-start.start c.line_end-end.result c.loop-start-test.true at.within.0 at.within.1 at.before at.found ds c.loop-start.invariant.0 in
-    inr (refl, lost_line (lines log) ds _ _ sofar _ (omega (arith, c.len.ensures, c.loop-start.drives.ok.0)) c.in-Some.drive c.in-Some.ensures)
+pub returns-in_err-says : goal.returns-in_err-says
+returns-in_err-says g c =
+    let step = c.in-Some.ensures.steps in
+    let value = rw c.in_err-says.ensures.ok_part at c.in_err-says.ensures.value in
+    let none = rw c.in_err-says.ensures.ok_part at c.read.ensures in
+    let is : c.in_err-says.field-0.0 ≡ refused_at (c.in-Some.before + 1) 6 = search (rules, value) in
+    says_nothing g.L.Line.text c.args.log.now (vec_items c.loop-before.said) c.in-Some.before _ _ _ c.loop-before.invariant.rest step.0 (omega (arith, step.1, c.loop-before.invariant.count)) none _ _ c.from_residual.ensures.1 is
 
-pub loop-start-preserved : goal.loop-start-preserved
-loop-start-preserved c =
-    let log = c.args.log.now in
-    let ds = vec_items c.loop-start.drives in
-    let at = c.line_end-end.ensures in
-    let sofar = line_after log c.loop-start.start c.line_end-end.result c.loop-start-test.true at.within.0 at.within.1 at.before at.found ds c.loop-start.invariant.0 in
-    let ok : is_ok c.push.result ≡ true = c.if-is_err.ensures.negation in
-    let pushed = rw ok at c.push.ensures.items in
-    (good_line (lines log) ds _ _ sofar c.in-Some.drive _ c.in-Some.ensures pushed, omega (arith, at.within.0, rw ok at c.push.ensures.len, c.loop-start.invariant.1))
-
-pub returns : goal.returns
-returns c =
-    let log = c.args.log.now in
-    let ds = vec_items c.loop-start.drives in
-    sym (c.loop-start.invariant.0 ∙ ap (λ l. map text ds ++ lines l) (drop_all c.loop-start.start log c.loop-start-test.false) ∙ append-nil (map text ds))
+pub returns-in_err-map_err : goal.returns-in_err-map_err
+returns-in_err-map_err g c =
+    let step = c.in-Some.ensures.steps in
+    let some = rw c.in_ok-says.ensures.ok_part at c.read.ensures in
+    let is : c.in_err-map_err.field-0.0 ≡ refused_at (c.in-Some.before + 1) 24 = search rules in
+    finds_no_memory g.L.Line.text c.args.log.now (vec_items c.loop-before.said) c.in-Some.before _ _ _ c.loop-before.invariant.rest step.0 (omega (arith, step.1, c.loop-before.invariant.count)) _ some _ _ c.from_residual-in_err-map_err.ensures.1 is

@@ -1,0 +1,38 @@
+//! How often each entry of a run of steps occurs.
+ghost use Rattle.kinds.specs.Refusals.{refusal};
+ghost use Rattle.kinds.specs.Steps.{numbering};
+ghost use Rattle.reports.specs.Tally.{CountsEach, IsOfEntry, record_of};
+ghost use Rattle.std.specs.Prelude.{◌≡◌, All, IfOk, map, MatchResult};
+ghost use Rattle.tallies.specs.Tallies.{Tallied};
+
+use crate::counted::Counted;
+use kinds::{Kind, Refusal, Steps};
+use runs::Run;
+use std::alloc::{AllocError, Global};
+use tallies::{TallyRecord, tally_records};
+
+/// How often each entry of a run of steps occurs, in the order of the entries. Refused with 24, and
+/// only for want of memory.
+pub fn tally_of<R: Run<Entry = Steps>>(heap: Global, run: &R) -> Result<Vec<Counted>, Refusal>
+    ensures { MatchResult result (λ v. CountsEach (R.Run.entries run.now) v.items) (λ f. f ≡ refusal 24) }
+{
+    let records = tally_records(heap, run)?;
+    let mut counts = counted(heap, records.as_slice())?;
+    counts.sort_unstable_by_key(|counted| i32::from(counted.entry));
+    Ok(counts)
+}
+
+// The entries that the records are of.
+fn counted(heap: Global, records: &[TallyRecord]) -> Result<Vec<Counted>, AllocError>
+    requires { All IsOfEntry records.now }
+    ensures { IfOk result (λ v. map record_of v.items ≡ records.now) }
+{
+    let mut counts = Vec::with_capacity(heap, records.len())?;
+    for record in records {
+        counts.push_reserved(Counted {
+            entry: Steps::from_number(record.number).unwrap(),
+            times: record.times,
+        });
+    }
+    Ok(counts)
+}
