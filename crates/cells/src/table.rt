@@ -7,6 +7,7 @@ ghost use Rattle.std.specs.Prelude.{◌≤◌, min, vec_len};
 /// The cell of place j joins the entries from j − l + 1 to j, where l is the largest power of two
 /// that divides j. Cells past the last entry hold zero. A table has at most 1,048,576 cells of its
 /// own; what lies past them is left as it was.
+// a table and a count, and no `Vec` of the cells in use: by rule all of the table is the caller's
 #[derive(Drop)]
 pub struct Cells<K> {
     pub(crate) table: Vec<K>,

@@ -36,6 +36,7 @@ pub(crate) fn joined<K: Reckoned>(cells: &[K]) -> K
     ensures { result ≡ total K.Reckoned.own (decoded K.Reckoned.own cells.now (length cells.now)) }
 {
     let mut sum = K::zero();
+    // no index counted: each place is where the reach of the last one ends
     let mut left = cells.len() as u32;
     while left > 0 {
         let place = Place { number: left };
@@ -52,6 +53,7 @@ pub(crate) fn raise<K: Reckoned>(cells: &mut [K], count: u32, place: Place, amou
     requires few { count ≤ 1_048_576 }
     ensures { Raised K.Reckoned.own cells.old cells.new count place.number amount }
 {
+    // no index counted: each place is the next cell that has the entry
     let mut above = place.number;
     while above <= count {
         let having = Place { number: above };

@@ -1,5 +1,5 @@
 -- The refusals of the whole product and their numbers. Assumes nothing.
-use Rattle.std.specs.Prelude.{◌≡◌, ℕ, cond, List, [], ◌∷◌, length, ◌==◌}
+use Rattle.std.specs.Prelude.{◌≡◌, ℕ, cond, List, [], ◌∷◌, length, ◌==◌, MatchResult, Result}
 use Rattle.kinds.specs.declared.refusal.Refusal.{Refusal}
 use Rattle.kinds.specs.declared.refusal.Refusal.TheVariants.{NoPlace, NoCells, NothingToStrike, AlreadyParked, WrongSlip, NotAForm, BadHead, OtherKind, UnlawfulPlan, TooManyEntries, BadLevel, StrayOnwardBits, BadDirectory, StrayChunkBits, EmptyTopChunk, NoSuchEntry, NoRoom, NoMemory}
 use Rattle.std.specs.List.{Contains}
@@ -40,6 +40,10 @@ first_of n (x ∷ xs) = cond (number x == n) x (first_of n xs)
 -- the refusal that has a number: how promises name one (they name no number that none has)
 abbrev pub refusal : ℕ → Refusal
 refusal n = first_of n every
+
+-- what is answered, or want of memory and nothing else
+abbrev pub OrNoMemory : {A : Type 0} → Result A Refusal → (A → Type 0) → Type 0
+OrNoMemory r P = MatchResult r P (λ f. f ≡ refusal 24)
 
 -- there are eighteen refusals, all of them listed; no two have one number, and each is found by its own
 pub record Numbered : Type 0 where

@@ -55,6 +55,8 @@ impl<K: Reckoned> Ledger<K> {
         &self.sheet
     }
 
+    // This call and the next three are the sheet's, with the promise that the slip stays.
+
     /// Adds an entry at the end and answers the new count. Refused as `Sheet::enter`.
     pub fn enter(&mut self, entry: K) -> Result<u32, Refusal>
         ensures refuses { result_err result ≡ refuses (stands self.old.sheet) (ask_enter entry) }

@@ -1,8 +1,8 @@
 //! How often each entry of a run of steps occurs.
-ghost use Rattle.kinds.specs.Refusals.{refusal};
+ghost use Rattle.kinds.specs.Refusals.{OrNoMemory};
 ghost use Rattle.kinds.specs.Steps.{numbering};
 ghost use Rattle.reports.specs.Tally.{CountsEach, IsOfEntry, record_of};
-ghost use Rattle.std.specs.Prelude.{◌≡◌, All, IfOk, map, MatchResult};
+ghost use Rattle.std.specs.Prelude.{◌≡◌, All, IfOk, map};
 ghost use Rattle.tallies.specs.Tallies.{Tallied};
 
 use crate::counted::Counted;
@@ -14,7 +14,7 @@ use tallies::{TallyRecord, tally_records};
 /// How often each entry of a run of steps occurs, in the order of the entries. Refused with 24, and
 /// only for want of memory.
 pub fn tally_of<R: Run<Entry = Steps>>(heap: Global, run: &R) -> Result<Vec<Counted>, Refusal>
-    ensures { MatchResult result (λ v. CountsEach (R.Run.entries run.now) v.items) (λ f. f ≡ refusal 24) }
+    ensures { OrNoMemory result (λ v. CountsEach (R.Run.entries run.now) v.items) }
 {
     let records = tally_records(heap, run)?;
     let mut counts = counted(heap, records.as_slice())?;

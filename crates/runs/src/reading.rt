@@ -1,6 +1,6 @@
 //! The numbers of a run's entries.
-ghost use Rattle.std.specs.Prelude.{◌≡◌, map, MatchResult};
-ghost use Rattle.kinds.specs.Refusals.{refusal};
+ghost use Rattle.std.specs.Prelude.{◌≡◌, map};
+ghost use Rattle.kinds.specs.Refusals.{OrNoMemory};
 
 use crate::iter::Iter;
 use crate::meaning::Run;
@@ -9,7 +9,7 @@ use std::alloc::Global;
 
 /// The numbers of the entries of `run`, in their order. Refused with 24, and only for want of memory.
 pub fn numbers_of<R: Run>(heap: Global, run: &R) -> Result<Vec<u32>, Refusal>
-    ensures { MatchResult result (λ v. v.items ≡ map R.Entry.Kind.number (R.Run.entries run.now)) (λ f. f ≡ refusal 24) }
+    ensures { OrNoMemory result (λ v. v.items ≡ map R.Entry.Kind.number (R.Run.entries run.now)) }
 {
     let numbers = Iter::over(run).map(|entry| entry.number()).collect(heap)?;
     Ok(numbers)

@@ -15,14 +15,14 @@ pub struct Totals<K> {
 }
 
 impl<K: Reckoned> Totals<K> {
-    ghost use Rattle.kinds.specs.Refusals.{refusal};
+    ghost use Rattle.kinds.specs.Refusals.{OrNoMemory};
     ghost use Rattle.runs.specs.Places.{running};
-    ghost use Rattle.std.specs.Prelude.{◌≡◌, MatchResult};
+    ghost use Rattle.std.specs.Prelude.{◌≡◌};
 
     /// The totals of the first 1, 2, 3 .. entries of `run`. Refused with 24, and only for want of
     /// memory.
     pub fn over<R: Run<Entry = K>>(heap: Global, run: &R) -> Result<Self, Refusal>
-        ensures { MatchResult result (λ t. t.joins.items ≡ running K.Reckoned.own (R.Run.entries run.now)) (λ f. f ≡ refusal 24) }
+        ensures { OrNoMemory result (λ t. t.joins.items ≡ running K.Reckoned.own (R.Run.entries run.now)) }
     {
         let mut joins = Vec::with_capacity(heap, run.count() as usize)?;
         let mut sum = K::zero();

@@ -1,6 +1,6 @@
 //! A season's log as a book.
-ghost use Rattle.std.specs.Prelude.{◌≡◌, map, MatchResult};
-ghost use Rattle.kinds.specs.Refusals.{refusal as numbered};
+ghost use Rattle.std.specs.Prelude.{◌≡◌, map};
+ghost use Rattle.kinds.specs.Refusals.{OrNoMemory};
 ghost use Rattle.kinds.specs.Steps.{numbering, reckoned};
 ghost use Rattle.ledgers.specs.Law.{Law};
 ghost use Rattle.seasons.specs.Seasons.{call_of, table_for};
@@ -24,7 +24,7 @@ fn call_of(line: LogLine) -> Call<Steps>
 /// The calls that the lines of a log ask for, in their order. Refused with 24, and only for want of
 /// memory.
 pub fn calls_of(heap: Global, lines: &[LogLine]) -> Result<Vec<Call<Steps>>, Refusal>
-    ensures { MatchResult result (λ v. v.items ≡ map call_of lines.now) (λ f. f ≡ numbered 24) }
+    ensures { OrNoMemory result (λ v. v.items ≡ map call_of lines.now) }
 {
     Ok(lines.iter().map(|line| call_of(*line)).collect(heap)?)
 }
@@ -33,7 +33,7 @@ pub fn calls_of(heap: Global, lines: &[LogLine]) -> Result<Vec<Call<Steps>>, Ref
 /// and one more. The book keeps the law: its total and its answers are what the history of the log
 /// says. Refused with 24, and only for want of memory.
 pub fn replay_log(heap: Global, unit: u32, lines: &[LogLine]) -> Result<Replayed<Steps>, Refusal>
-    ensures { MatchResult result (λ s. Law numbering reckoned unit (table_for lines.now) (map call_of lines.now) s.book.sheet s.total s.answers.items) (λ f. f ≡ numbered 24) }
+    ensures { OrNoMemory result (λ s. Law numbering reckoned unit (table_for lines.now) (map call_of lines.now) s.book.sheet s.total s.answers.items) }
 {
     let calls = calls_of(heap, lines)?;
     let table = vec![in heap; Steps::zero(); lines.len() + 1]?;

@@ -29,6 +29,7 @@ impl<K: Reckoned> Sheet<K> {
     }
 }
 
+// Each call is the open sheet's: a state in the type would stand in all its promises too.
 impl<K: Reckoned> ClosedSheet<K> {
     /// How many entries there are.
     pub fn count(&self) -> u32

@@ -8,6 +8,7 @@ use kinds::Refusal;
 ///
 /// A slip must end in `restore` or `give_up`: only these spend it, and one that is not spent may
 /// not be let go, so a program that forgets a slip is refused by the check.
+// a flag and not a type for each state: by rule the drop of a slip is admitted when it is spent
 pub struct Slip {
     unit: u32,
     spent: bool,

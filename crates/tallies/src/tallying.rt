@@ -1,8 +1,8 @@
 //! The tally of a run.
-ghost use Rattle.kinds.specs.Refusals.{refusal};
+ghost use Rattle.kinds.specs.Refusals.{OrNoMemory};
 ghost use Rattle.std.specs.BTreeMap.{IsOrdered};
 ghost use Rattle.std.specs.Ordering.{nat_cmp};
-ghost use Rattle.std.specs.Prelude.{◌≡◌, ◌^◌, ◌<◌, IfOk, map, length, MatchResult};
+ghost use Rattle.std.specs.Prelude.{◌≡◌, ◌^◌, ◌<◌, IfOk, map, length};
 ghost use Rattle.tallies.specs.Counts.{Counts, record_of, Written};
 ghost use Rattle.tallies.specs.Tallies.{Answered, Tallied};
 
@@ -26,7 +26,7 @@ pub fn tally<R: Run>(heap: Global, run: &R, records: &mut [TallyRecord]) -> Resu
 /// One record for each different number of the run, with how often it occurs. Refused with 24, and
 /// only for want of memory. In which order the records stand is not promised.
 pub fn tally_records<R: Run>(heap: Global, run: &R) -> Result<Vec<TallyRecord>, Refusal>
-    ensures { MatchResult result (λ v. Tallied (map R.Entry.Kind.number (R.Run.entries run.now)) v.items) (λ f. f ≡ refusal 24) }
+    ensures { OrNoMemory result (λ v. Tallied (map R.Entry.Kind.number (R.Run.entries run.now)) v.items) }
 {
     let numbers = numbers_of(heap, run)?;
     let counts = counted(heap, numbers.as_slice())?;
