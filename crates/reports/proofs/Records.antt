@@ -1,5 +1,5 @@
 -- Records of a tally of entries. Assumes nothing.
-use Rattle.std.proofs.Common.{◌≡◌, ℕ, ◌+◌, ◌<◌, ◌≤◌, Bool, true, false, cond, eqb, List, [], ◌∷◌, map, length, get_or, Err, Some, None, Option, rules, sym, refl, ◌∙◌, subst, ⊎_elim, arith}
+use Rattle.std.proofs.Common.{◌≡◌, ℕ, ◌+◌, ◌<◌, Bool, true, false, cond, eqb, List, [], ◌∷◌, map, get_or, Some, None, Option, rules, sym, refl, ◌∙◌, subst, arith}
 use Rattle.std.specs.Option.{MatchOption, IsSome}
 use Rattle.std.specs.List.{All}
 use Rattle.std.specs.List.Sorted.{IsPermutation}
@@ -8,11 +8,9 @@ use Rattle.reports.specs.declared.counted.Counted.{Counted}
 use Rattle.std.proofs.lemmas.List.Sorted.{sum_by-IsPermutation, All-permutation, IsPermutation-map}
 use Rattle.std.proofs.lemmas.List.Sums.{sum_by-cons}
 use Rattle.std.proofs.lemmas.Bool.{eqb-true}
-use Rattle.kinds.specs.Refusals.{refusal}
 use Rattle.kinds.specs.Steps.{numbering}
-use Rattle.kinds.specs.declared.refusal.Refusal.{Refusal}
 use Rattle.kinds.specs.declared.steps.Steps.{Steps}
-use Rattle.tallies.specs.Tallies.{times, different, Tallied, Answered}
+use Rattle.tallies.specs.Tallies.{times, Tallied}
 use Rattle.tallies.specs.declared.records.TallyRecord.{TallyRecord}
 
 -- a tally in another order is a tally
@@ -44,15 +42,6 @@ entry_of_times n (e ∷ es) some =
 pub read_number : (n : ℕ) (r : Option Steps) → MatchOption r ((s : Steps) → numbering.number s ≡ n → ⊥) (λ s. numbering.number s ≡ n) → (s : Steps) × (numbering.number s ≡ n) → IsSome r
 read_number n None read of = absurd (read of.0 of.1)
 read_number n (Some s) read of = search rules
-
--- no more numbers are different than there are
-different-le : (ns : List ℕ) → different ns ≤ length ns
-different-le [] = omega arith
-different-le (n ∷ ns) = grind (arith, different-le ns)
-
--- with a record for each entry only memory can be wanted
-pub wants_memory : (ns : List ℕ) (before after : List TallyRecord) (f : Refusal) → length ns ≤ length before → Answered ns before after (Err f) → f ≡ refusal 24
-wants_memory ns before after f room answered = ⊎_elim (λ few. absurd (omega (arith, few.1, room, different-le ns))) (λ is. is) answered.1
 
 -- each record of a tally of entries is that of an entry
 pub records_of_entries : (es : List Steps) (rs : List TallyRecord) → Tallied (map numbering.number es) rs → All IsOfEntry rs
