@@ -13,6 +13,8 @@ KINDS = {
     "Flags": (lambda n: n % 256, lambda a, b: a ^ b, lambda a: a),
     "Notch": (lambda n: n % 5, lambda a, b: a + b, lambda a: -a),
 }
+# how a Rattle program makes an entry of each kind of a whole number
+ENTRY = {"Steps": "Steps::from", "Counts": "Counts::from", "Flags": "Flags::from", "Notch": "Notch::turned"}
 MOST = 4294967295
 
 
@@ -37,15 +39,15 @@ def season(kind, unit, length, calls):
         n, free = len(entries), length - len(entries)
         place = 1 <= args[0] <= n if call in ("Correct", "Shift", "At") else True
         if not place or (call == "Total" and args[0] > n):
-            told.append(("Refused", 1))
+            told.append(("Err", "NoPlace"))
         elif call == "Park" and parked is not None:
-            told.append(("Refused", 4))
+            told.append(("Err", "AlreadyParked"))
         elif call == "Enter" and free < (1 if parked is None else 2) or call == "Park" and free < 2:
-            told.append(("Refused", 2))
+            told.append(("Err", "NoCells"))
         elif call == "Strike" and n == 0:
-            told.append(("Refused", 3))
+            told.append(("Err", "NothingToStrike"))
         elif call in ("Restore", "GiveUp") and parked is None:
-            told.append(("Refused", 5))
+            told.append(("Err", "WrongSlip"))
         elif call == "Enter":
             entries.append(args[0])
             told.append(("Number", n + 1))
@@ -157,10 +159,11 @@ SEASONS = [
 ]
 
 HEAD = """//! Seasons, and what each must come to. Written by tests/sheet_cases.py: alter it there.
-use crate::seasons::Answered::{Entry, Number, Refused, Slip};
 use crate::seasons::{Season, comes_to};
+use kinds::Refusal::{AlreadyParked, NoCells, NoPlace, NothingToStrike, WrongSlip};
 use kinds::{Counts, Flags, Steps};
 use ledgers::Call;
+use sheets::Answer::{Entry, Number, Slip};
 use std::test::Fail;
 use trials::Notch;
 """
@@ -171,10 +174,14 @@ def shown(call):
     return "Call::" + name + ("(%s)" % ", ".join(map(str, args)) if args else "")
 
 
+def answered(answer, value):
+    return "Err(%s)" % value if answer == "Err" else "Ok(%s(%d))" % (answer, value)
+
+
 def written(name, kind, unit, length, calls):
     told, entries, cells = season(kind, unit, length, calls)
     out = ["        Season {", '            name: "%s",' % name, "            unit: %d," % unit, "            calls: &["]
-    out += ["                (%s, %s(%d))," % (shown(c), *a) for c, a in zip(calls, told)]
+    out += ["                (%s, %s)," % (shown(c), answered(*a)) for c, a in zip(calls, told)]
     out += ["            ],", "            entries: &%s," % entries, "            cells: &%s," % cells]
     out += ["            total: %d," % total(kind, entries), "        },"]
     return out
@@ -188,6 +195,6 @@ with open("crates/sheet_trials/src/cases.rt", "w") as f:
         out += ["    for season in ["]
         for s in seasons:
             out += written(*s)
-        out += ["    ] {", "        comes_to::<%s>(&rt, heap, season)?;" % seasons[0][1], "    }", "    Ok(())", "}"]
+        out += ["    ] {", "        comes_to(&rt, heap, season, &%s)?;" % ENTRY[seasons[0][1]], "    }", "    Ok(())", "}"]
         f.write("\n".join(out) + "\n")
 print(len(SEASONS), "seasons,", sum(len(s[5]) for s in SEASONS), "calls")

@@ -1,5 +1,5 @@
 -- Worked examples of sheets, put to the definitions themselves. Assumes nothing.
-use Rattle.std.specs.Prelude.{◌≡◌, ℕ, ◌-◌, List, [], ◌∷◌, map, ℤ, pos, negsuc, ◌+ℤ◌, neg_ℤ, Some, None, Option}
+use Rattle.std.specs.Prelude.{◌≡◌, ℕ, ◌-◌, List, [], ◌∷◌, map, ℤ, pos, negsuc, ◌+ℤ◌, neg_ℤ, None, Ok, Err}
 use Rattle.cells.specs.Cells.{decoded, own}
 use Rattle.cells.specs.Spans.{LargestPower, span}
 use Rattle.kinds.specs.Totals.{total}
@@ -11,7 +11,7 @@ use Rattle.ledgers.specs.declared.call.Call.TheVariants.{Enter, Correct, Shift, 
 use Rattle.runs.specs.Places.{part}
 use Rattle.sheets.specs.History.{History, answer, begun, restore}
 use Rattle.sheets.specs.declared.answer.Answer.{Answer}
-use Rattle.sheets.specs.declared.answer.Answer.TheVariants.{Number, Entry, Slip, Refused}
+use Rattle.sheets.specs.declared.answer.Answer.TheVariants.{Number, Entry, Slip}
 
 -- the integers under addition serve as entries here (`negsuc n` is −(n + 1))
 abbrev sums : Ghosts ℤ
@@ -33,16 +33,16 @@ mended = Enter (pos 5) ∷ Enter (pos 6) ∷ Correct 1 (pos 2) ∷ Shift 2 (pos 
 pub record Examples : Type 0 where
   pub season_entries : (history sums 7 8 season).entries ≡ pos 40 ∷ negsuc 2 ∷ negsuc 36 ∷ pos 7 ∷ pos 37 ∷ []
   pub season_balance : (history sums 7 8 season).balance ≡ pos 44
-  pub season_answers : replies sums 7 8 season ≡ Number 1 ∷ Number 2 ∷ Slip 7 ∷ Number 4 ∷ Number 5 ∷ Entry (pos 44) ∷ Refused NoPlace ∷ []
-  pub refusals : replies sums 7 3 refused ≡ Refused NothingToStrike ∷ Refused WrongSlip ∷ Refused WrongSlip ∷ Refused NoPlace ∷ Refused NoPlace ∷ Number 1 ∷ Slip 7 ∷ Refused AlreadyParked ∷ Refused NoCells ∷ Number 3 ∷ Refused NoCells ∷ Refused NoCells ∷ []
+  pub season_answers : replies sums 7 8 season ≡ Ok (Number 1) ∷ Ok (Number 2) ∷ Ok (Slip 7) ∷ Ok (Number 4) ∷ Ok (Number 5) ∷ Ok (Entry (pos 44)) ∷ Err NoPlace ∷ []
+  pub refusals : replies sums 7 3 refused ≡ Err NothingToStrike ∷ Err WrongSlip ∷ Err WrongSlip ∷ Err NoPlace ∷ Err NoPlace ∷ Ok (Number 1) ∷ Ok (Slip 7) ∷ Err AlreadyParked ∷ Err NoCells ∷ Ok (Number 3) ∷ Err NoCells ∷ Err NoCells ∷ []
   pub mended_entries : (history sums 7 8 mended).entries ≡ pos 2 ∷ pos 16 ∷ []
   pub mended_balance : (history sums 7 8 mended).balance ≡ pos 18
-  pub mended_answers : replies sums 7 8 mended ≡ Number 1 ∷ Number 2 ∷ Entry (pos 5) ∷ Entry (pos 16) ∷ Entry (pos 16) ∷ Number 3 ∷ Entry (pos 9) ∷ Number 2 ∷ []
+  pub mended_answers : replies sums 7 8 mended ≡ Ok (Number 1) ∷ Ok (Number 2) ∷ Ok (Entry (pos 5)) ∷ Ok (Entry (pos 16)) ∷ Ok (Entry (pos 16)) ∷ Ok (Number 3) ∷ Ok (Entry (pos 9)) ∷ Ok (Number 2) ∷ []
   -- a slip still held at the end is given up: the amount stays off the balance
   pub given_up : (closed_history sums 7 8 (Enter (pos 5) ∷ Park ∷ [])).parked ≡ None
   pub given_up_balance : (closed_history sums 7 8 (Enter (pos 5) ∷ Park ∷ [])).balance ≡ pos 0
   -- a slip of another unit
-  pub other_unit : answer sums (history sums 7 8 (Enter (pos 5) ∷ Park ∷ [])) (restore 8) ≡ Refused WrongSlip
+  pub other_unit : answer sums (history sums 7 8 (Enter (pos 5) ∷ Park ∷ [])) (restore 8) ≡ Err WrongSlip
   -- how far the cells of the places 1 to 8 reach
   pub spans : map span (1 ∷ 2 ∷ 3 ∷ 4 ∷ 5 ∷ 6 ∷ 7 ∷ 8 ∷ []) ≡ 1 ∷ 2 ∷ 1 ∷ 4 ∷ 1 ∷ 2 ∷ 1 ∷ 8 ∷ []
   -- the cells of the season's entries: 40, 40 − 3, −37, 40 − 3 − 37 + 7, 37; and the entries that they stand for

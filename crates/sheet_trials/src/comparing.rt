@@ -10,20 +10,20 @@ use std::test::Fail;
 fn compared(
     rt: &impl Abort,
     heap: Global,
-    first: &[Call<i64>],
-    second: &[Call<i64>],
+    first: &[Call<i32>],
+    second: &[Call<i32>],
     same: bool,
 ) -> Result<(), Fail> {
-    let a = played::<Steps>(heap, 1, 4, first)?.book;
-    let b = played::<Steps>(heap, 2, 9, second)?.book;
+    let a = played(heap, 1, 4, first, &Steps::from)?.book;
+    let b = played(heap, 2, 9, second, &Steps::from)?.book;
     let told = (agrees(&a, &b), agrees(&b, &a), agrees(&a, &a));
     assert_eq!(rt; told, (same, same, true));
     Ok(())
 }
 
-const PLAIN: [Call<i64>; 3] = [Call::Enter(5), Call::Enter(7), Call::Enter(-2)];
+const PLAIN: [Call<i32>; 3] = [Call::Enter(5), Call::Enter(7), Call::Enter(-2)];
 
-const ALTERED: [Call<i64>; 9] = [
+const ALTERED: [Call<i32>; 9] = [
     Call::Enter(1),
     Call::Enter(7),
     Call::Strike,
@@ -35,7 +35,7 @@ const ALTERED: [Call<i64>; 9] = [
     Call::Strike,
 ];
 
-const PARKED: [Call<i64>; 5] = [
+const PARKED: [Call<i32>; 5] = [
     Call::Enter(5),
     Call::Park,
     Call::Shift(2, 12),

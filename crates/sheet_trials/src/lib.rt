@@ -7,6 +7,4 @@ mod cases;
 mod comparing;
 #[cfg(test)]
 mod seasons;
-#[cfg(test)]
-mod valued;
 mod worked;

@@ -1,5 +1,4 @@
 //! Seasons replayed, and held to what they must come to.
-use crate::valued::Valued;
 use kinds::{Kind, Reckoned, Refusal};
 use ledgers::{Call, Replayed, replay};
 use runs::Run;
@@ -8,42 +7,26 @@ use std::alloc::Global;
 use std::process::Abort;
 use std::test::Fail;
 
-// What a call answers, its entry as a plain value and its refusal by number.
-#[derive(Clone, Copy, PartialEq, Eq, Debug)]
-pub(crate) enum Answered {
-    Number(u32),
-    Entry(i64),
-    Slip(u32),
-    Refused(u8),
-}
-
-// A season: its calls with their answers, and the entries, the cells and the total at its end.
+// A season in plain numbers: its calls with their answers, and the entries, the cells and the total
+// at its end.
 #[derive(Clone, Copy)]
-pub(crate) struct Season<'a> {
+pub(crate) struct Season<'a, N> {
     pub(crate) name: &'a str,
     pub(crate) unit: u32,
-    pub(crate) calls: &'a [(Call<i64>, Answered)],
-    pub(crate) entries: &'a [i64],
-    pub(crate) cells: &'a [i64],
-    pub(crate) total: i64,
+    pub(crate) calls: &'a [(Call<N>, Result<Answer<N>, Refusal>)],
+    pub(crate) entries: &'a [N],
+    pub(crate) cells: &'a [N],
+    pub(crate) total: N,
 }
 
-// An answer in plain values.
-fn plainly<K: Valued>(answer: Answer<K>) -> Answered {
-    match answer {
-        Answer::Number(n) => Answered::Number(n),
-        Answer::Entry(e) => Answered::Entry(e.worth()),
-        Answer::Slip(unit) => Answered::Slip(unit),
-        Answer::Refused(refusal) => Answered::Refused(refusal.number()),
-    }
-}
-
-// A call on entries of some kind, from one on plain values.
-fn asked<K: Valued>(call: Call<i64>) -> Call<K> {
+// A call on entries, from one on plain numbers.
+fn asked<N, K, F: Fn(N) -> K>(call: Call<N>, entry: &F) -> Call<K>
+    requires { F.IsAlwaysCallable entry.now }
+{
     match call {
-        Call::Enter(e) => Call::Enter(K::of(e)),
-        Call::Correct(place, e) => Call::Correct(place, K::of(e)),
-        Call::Shift(place, amount) => Call::Shift(place, K::of(amount)),
+        Call::Enter(e) => Call::Enter(entry(e)),
+        Call::Correct(place, e) => Call::Correct(place, entry(e)),
+        Call::Shift(place, amount) => Call::Shift(place, entry(amount)),
         Call::Strike => Call::Strike,
         Call::Park => Call::Park,
         Call::Restore => Call::Restore,
@@ -54,51 +37,51 @@ fn asked<K: Valued>(call: Call<i64>) -> Call<K> {
     }
 }
 
-// Whether a table has just these values.
-fn has<K: Valued>(table: &[K], values: &[i64]) -> bool {
-    let mut right = table.len() == values.len();
-    for (cell, value) in table.iter().zip(values) {
-        right = right && cell.worth() == *value;
+// A reply in plain numbers.
+fn plainly<N, K: Into<N>>(reply: Result<Answer<K>, Refusal>) -> Result<Answer<N>, Refusal> {
+    match reply? {
+        Answer::Number(n) => Ok(Answer::Number(n)),
+        Answer::Entry(e) => Ok(Answer::Entry(e.into())),
+        Answer::Slip(unit) => Ok(Answer::Slip(unit)),
     }
-    right
 }
 
 // The season of these calls, on a sheet of so many cells that were not zero before.
-pub(crate) fn played<K: Valued>(
+pub(crate) fn played<N: Copy + From<u8>, K: Reckoned, F: Fn(N) -> K>(
     heap: Global,
     unit: u32,
     cells: usize,
-    calls: &[Call<i64>],
-) -> Result<Replayed<K>, Fail> {
-    let mut list = Vec::with_capacity(heap, calls.len())?;
-    for call in calls {
-        list.push(asked::<K>(*call))?;
-    }
-    let mut table = Vec::with_capacity(heap, cells)?;
-    for _ in 0..cells {
-        table.push(K::of(3))?;
-    }
-    match replay(heap, unit, table, list.as_slice()) {
-        Ok(replayed) => Ok(replayed),
-        Err(_) => Err(Fail::new("no memory")),
-    }
+    calls: &[Call<N>],
+    entry: &F,
+) -> Result<Replayed<K>, Fail>
+    requires { F.IsAlwaysCallable entry.now }
+{
+    let calls: Vec<Call<K>> = calls.iter().map(|call| asked(*call, entry)).collect(heap)?;
+    let table = vec![in heap; entry(N::from(3)); cells]?;
+    replay(heap, unit, table, calls.as_slice()).map_err(|_| Fail::new("no memory"))
 }
 
 // That the calls of a season answer what stands beside them, and leave its entries, cells and total.
-pub(crate) fn comes_to<K: Valued>(
+pub(crate) fn comes_to<N: Copy + PartialEq + From<u8>, K: Reckoned + Into<N>, F: Fn(N) -> K>(
     rt: &impl Abort,
     heap: Global,
-    season: Season<'_>,
-) -> Result<(), Fail> {
-    let mut calls = Vec::with_capacity(heap, season.calls.len())?;
-    for (call, _) in season.calls {
-        calls.push(*call)?;
-    }
-    let replayed = played::<K>(heap, season.unit, season.cells.len(), calls.as_slice())?;
+    season: Season<'_, N>,
+    entry: &F,
+) -> Result<(), Fail>
+    requires { F.IsAlwaysCallable entry.now }
+{
+    let calls: Vec<Call<N>> = season.calls.iter().map(|(call, _)| *call).collect(heap)?;
+    let replayed = played(
+        heap,
+        season.unit,
+        season.cells.len(),
+        calls.as_slice(),
+        entry,
+    )?;
     let answered = answers(replayed.answers.as_slice(), season.calls);
     let kept = has(replayed.book.cells(), season.cells);
     let read = reads(&replayed.book, season.entries, season.total);
-    let summed = replayed.total.worth() == season.total;
+    let summed = replayed.total.into() == season.total;
     holds(rt, answered, "its answers", season.name);
     holds(rt, kept, "its cells", season.name);
     holds(rt, summed, "its total", season.name);
@@ -111,31 +94,41 @@ fn holds(rt: &impl Abort, right: bool, what: &str, season: &str) {
     assert!(rt; right, "{season}: {what}");
 }
 
-// Whether answers are those beside the calls.
-fn answers<K: Valued>(told: &[Answer<K>], calls: &[(Call<i64>, Answered)]) -> bool {
-    let mut right = told.len() == calls.len();
-    for (answer, (_, expected)) in told.iter().zip(calls) {
-        right = right && plainly(*answer) == *expected;
-    }
-    right
+// Whether replies are those beside the calls.
+fn answers<N: Copy + PartialEq, K: Copy + Into<N>>(
+    replies: &[Result<Answer<K>, Refusal>],
+    calls: &[(Call<N>, Result<Answer<N>, Refusal>)],
+) -> bool {
+    replies.len() == calls.len()
+        && replies
+            .iter()
+            .zip(calls)
+            .all(|(reply, (_, expected))| plainly(*reply) == *expected)
 }
 
-// The value of an entry that is there, and below every value where there is none.
-fn worth<K: Valued>(told: Result<K, Refusal>) -> i64 {
-    match told {
-        Ok(entry) => entry.worth(),
-        Err(_) => i64::MIN,
-    }
+// Whether a table has just these numbers.
+fn has<N: Copy + PartialEq, K: Copy + Into<N>>(table: &[K], numbers: &[N]) -> bool {
+    table.len() == numbers.len()
+        && table
+            .iter()
+            .zip(numbers)
+            .all(|(cell, number)| (*cell).into() == *number)
+}
+
+// Whether an entry is there, and is this number.
+fn is_there<N: Copy + PartialEq, K: Copy + Into<N>>(told: Result<K, Refusal>, number: N) -> bool {
+    told.is_ok_and(|entry| entry.into() == number)
 }
 
 // Whether a closed sheet reads as these entries, place by place and as a run.
-fn reads<K: Valued>(book: &ClosedSheet<K>, entries: &[i64], total: i64) -> bool {
-    let count = book.count();
-    let mut right = count as usize == entries.len();
-    let mut place = 0u32;
-    for expected in entries {
-        place = place.saturating_add(1);
-        right = right && worth(book.at(place)) == *expected;
-    }
-    right && worth(runs::total(book, count)) == total
+fn reads<N: Copy + PartialEq, K: Reckoned + Into<N>>(
+    book: &ClosedSheet<K>,
+    entries: &[N],
+    total: N,
+) -> bool {
+    book.count() as usize == entries.len()
+        && (1u32..)
+            .zip(entries)
+            .all(|(place, number)| is_there(book.at(place), *number))
+        && is_there(runs::total(book, book.count()), total)
 }

@@ -7,7 +7,6 @@ mod layers;
 mod notch;
 #[cfg(test)]
 mod numbering;
-mod selector;
 mod worked;
 
 pub use notch::Notch;

@@ -4,10 +4,7 @@ use kinds::{Counts, Faults, Flags, Kind, Reckoned, Refusal, Steps};
 
 // That `n` denotes an entry of that very number.
 fn stands<K: Kind>(n: u32) -> bool {
-    match K::from_number(n) {
-        Some(e) => e.number() == n,
-        None => false,
-    }
+    K::from_number(n).is_some_and(|e| e.number() == n)
 }
 
 #[test]
@@ -20,8 +17,8 @@ fn steps_have_their_numbers(rt: HostRuntime) {
         (-2147483648, 4294967295),
     ];
     for (s, n) in table {
-        assert_eq!(rt; Steps::new(s).number(), n);
-        assert!(rt; Steps::from_number(n) == Some(Steps::new(s)));
+        assert_eq!(rt; Steps::from(s).number(), n);
+        assert_eq!(rt; Steps::from_number(n), Some(Steps::from(s)));
     }
 }
 
@@ -39,8 +36,10 @@ fn edges_of_every_kind(rt: HostRuntime) {
         assert_eq!(rt; stands::<Faults>(n), n <= 10);
         assert_eq!(rt; stands::<Notch>(n), n <= 4);
     }
-    assert!(rt; Faults::new(10).is_some());
-    assert!(rt; Faults::new(11).is_none());
+    assert!(rt; Faults::try_from(10).is_ok());
+    assert_eq!(rt; Faults::try_from(11), Err(Refusal::NoSuchEntry));
+    assert!(rt; Notch::try_from(4).is_ok());
+    assert_eq!(rt; Notch::try_from(5), Err(Refusal::NoSuchEntry));
 }
 
 #[test]
@@ -50,17 +49,19 @@ fn kinds_are_known_by_number(rt: HostRuntime) {
     assert_eq!(rt; (Flags::WIDTH, Flags::CODE), (8, 3));
     assert_eq!(rt; (Faults::WIDTH, Faults::CODE), (4, 4));
     assert_eq!(rt; (Notch::WIDTH, Notch::CODE), (3, 200));
-    assert_eq!(rt; (Notch::bits(), Notch::kind_number()), (3, 200));
 }
 
 #[test]
 fn joining_wraps_and_cancels(rt: HostRuntime) {
-    let most = Steps::new(2147483647);
-    assert_eq!(rt; most.join(Steps::new(1)).value(), -2147483648);
-    assert_eq!(rt; Steps::new(-2147483648).inverse().value(), -2147483648);
-    assert_eq!(rt; Counts::new(4294967295).join(Counts::new(2)).value(), 1);
-    assert_eq!(rt; Counts::new(0).inverse().value(), 0);
-    assert_eq!(rt; Flags::new(0b1100).join(Flags::new(0b1010)).value(), 0b0110);
+    let most = Steps::from(2147483647);
+    let least = Steps::from(-2147483648);
+    assert_eq!(rt; most.join(Steps::from(1)), least);
+    assert_eq!(rt; least.inverse(), least);
+    let wrapped = Counts::from(4294967295).join(Counts::from(2));
+    assert_eq!(rt; wrapped, Counts::from(1));
+    assert_eq!(rt; Counts::from(0).inverse(), Counts::from(0));
+    let flags = Flags::from(0b1100).join(Flags::from(0b1010));
+    assert_eq!(rt; flags, Flags::from(0b0110));
 }
 
 #[test]

@@ -26,11 +26,11 @@ impl Kind for Notch {
     ghost distinct = { same_notches };
 
     fn number(self) -> u32 {
-        u32::from(self.value())
+        u32::from(self.value)
     }
 
     fn from_number(n: u32) -> Option<Notch> {
-        if n < 5 { Notch::new(n as u8) } else { None }
+        Notch::try_from(u8::try_from(n).ok()?).ok()
     }
 }
 
@@ -56,10 +56,10 @@ impl Reckoned for Notch {
     }
 
     fn join(self, other: Notch) -> Notch {
-        Notch::turned(self.value() + other.value())
+        Notch::turned(self.value + other.value)
     }
 
     fn inverse(self) -> Notch {
-        Notch::turned(5 - self.value())
+        Notch::turned(5 - self.value)
     }
 }
