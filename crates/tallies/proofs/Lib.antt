@@ -1,3 +1,4 @@
 pub mod Counting
+pub mod Differing
 pub mod Distinct
 pub mod Sums
