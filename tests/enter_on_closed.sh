@@ -33,7 +33,7 @@ use sheets::Sheet;
 
 fn main(rt: HostRuntime) {
     let mut sheet = Sheet::make(1, Vec::new(rt.alloc()))$1;
-    let _ = sheet.enter(Counts::new(1));
+    let _ = sheet.enter(Counts::from(1));
 }
 PROGRAM
     (cd "$work/crates/enters" && rt try) >"$work/said" 2>&1
