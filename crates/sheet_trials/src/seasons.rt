@@ -37,16 +37,11 @@ fn asked<N, K, F: Fn(N) -> K>(call: Call<N>, entry: &F) -> Call<K>
     }
 }
 
-// A reply in entries, from one in plain numbers.
-fn told<N, K, F: Fn(N) -> K>(
-    reply: Result<Answer<N>, Refusal>,
-    entry: &F,
-) -> Result<Answer<K>, Refusal>
-    requires { F.IsAlwaysCallable entry.now }
-{
+// A reply in plain numbers.
+fn plainly<N, K: Into<N>>(reply: Result<Answer<K>, Refusal>) -> Result<Answer<N>, Refusal> {
     match reply? {
         Answer::Number(n) => Ok(Answer::Number(n)),
-        Answer::Entry(e) => Ok(Answer::Entry(entry(e))),
+        Answer::Entry(e) => Ok(Answer::Entry(e.into())),
         Answer::Slip(unit) => Ok(Answer::Slip(unit)),
     }
 }
@@ -67,7 +62,7 @@ pub(crate) fn played<N: Copy + From<u8>, K: Reckoned, F: Fn(N) -> K>(
 }
 
 // That the calls of a season answer what stands beside them, and leave its entries, cells and total.
-pub(crate) fn comes_to<N: Copy + From<u8>, K: Reckoned + PartialEq, F: Fn(N) -> K>(
+pub(crate) fn comes_to<N: Copy + PartialEq + From<u8>, K: Reckoned + Into<N>, F: Fn(N) -> K>(
     rt: &impl Abort,
     heap: Global,
     season: Season<'_, N>,
@@ -83,10 +78,10 @@ pub(crate) fn comes_to<N: Copy + From<u8>, K: Reckoned + PartialEq, F: Fn(N) -> 
         calls.as_slice(),
         entry,
     )?;
-    let answered = answers(replayed.answers.as_slice(), season.calls, entry);
-    let kept = has(replayed.book.cells(), season.cells, entry);
-    let read = reads(&replayed.book, season.entries, season.total, entry);
-    let summed = replayed.total == entry(season.total);
+    let answered = answers(replayed.answers.as_slice(), season.calls);
+    let kept = has(replayed.book.cells(), season.cells);
+    let read = reads(&replayed.book, season.entries, season.total);
+    let summed = replayed.total.into() == season.total;
     holds(rt, answered, "its answers", season.name);
     holds(rt, kept, "its cells", season.name);
     holds(rt, summed, "its total", season.name);
@@ -100,43 +95,40 @@ fn holds(rt: &impl Abort, right: bool, what: &str, season: &str) {
 }
 
 // Whether replies are those beside the calls.
-fn answers<N: Copy, K: Copy + PartialEq, F: Fn(N) -> K>(
+fn answers<N: Copy + PartialEq, K: Copy + Into<N>>(
     replies: &[Result<Answer<K>, Refusal>],
     calls: &[(Call<N>, Result<Answer<N>, Refusal>)],
-    entry: &F,
-) -> bool
-    requires { F.IsAlwaysCallable entry.now }
-{
+) -> bool {
     replies.len() == calls.len()
         && replies
             .iter()
             .zip(calls)
-            .all(|(reply, (_, expected))| *reply == told(*expected, entry))
+            .all(|(reply, (_, expected))| plainly(*reply) == *expected)
 }
 
-// Whether a table has just these cells.
-fn has<N: Copy, K: Copy + PartialEq, F: Fn(N) -> K>(table: &[K], cells: &[N], entry: &F) -> bool
-    requires { F.IsAlwaysCallable entry.now }
-{
-    table.len() == cells.len()
+// Whether a table has just these numbers.
+fn has<N: Copy + PartialEq, K: Copy + Into<N>>(table: &[K], numbers: &[N]) -> bool {
+    table.len() == numbers.len()
         && table
             .iter()
-            .zip(cells)
-            .all(|(cell, expected)| *cell == entry(*expected))
+            .zip(numbers)
+            .all(|(cell, number)| (*cell).into() == *number)
+}
+
+// Whether an entry is there, and is this number.
+fn is_there<N: Copy + PartialEq, K: Copy + Into<N>>(told: Result<K, Refusal>, number: N) -> bool {
+    told.is_ok_and(|entry| entry.into() == number)
 }
 
 // Whether a closed sheet reads as these entries, place by place and as a run.
-fn reads<N: Copy, K: Reckoned + PartialEq, F: Fn(N) -> K>(
+fn reads<N: Copy + PartialEq, K: Reckoned + Into<N>>(
     book: &ClosedSheet<K>,
     entries: &[N],
     total: N,
-    entry: &F,
-) -> bool
-    requires { F.IsAlwaysCallable entry.now }
-{
+) -> bool {
     book.count() as usize == entries.len()
         && (1u32..)
             .zip(entries)
-            .all(|(place, expected)| book.at(place) == Ok(entry(*expected)))
-        && runs::total(book, book.count()) == Ok(entry(total))
+            .all(|(place, number)| is_there(book.at(place), *number))
+        && is_there(runs::total(book, book.count()), total)
 }
