@@ -20,6 +20,7 @@ pub(crate) struct Season<'a, N> {
 }
 
 // A call on entries, from one on plain numbers.
+// Here and not a `map` of `Call`, since only these trials ask for it.
 fn asked<N, K, F: Fn(N) -> K>(call: Call<N>, entry: &F) -> Call<K>
     requires { F.IsAlwaysCallable entry.now }
 {
