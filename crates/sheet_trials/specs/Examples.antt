@@ -1,7 +1,7 @@
 -- Worked examples of sheets, put to the definitions themselves. Assumes nothing.
-use Rattle.std.specs.Prelude.{◌≡◌, ℕ, ◌-◌, List, [], ◌∷◌, map, ℤ, pos, negsuc, ◌+ℤ◌, neg_ℤ, None, Ok, Err}
+use Rattle.std.specs.Prelude.{◌≡◌, ◌-◌, List, [], ◌∷◌, map, ℤ, pos, negsuc, ◌+ℤ◌, neg_ℤ, None, Ok, Err}
 use Rattle.cells.specs.Cells.{decoded, own}
-use Rattle.cells.specs.Spans.{LargestPower, span}
+use Rattle.cells.specs.Spans.{span}
 use Rattle.kinds.specs.Totals.{total}
 use Rattle.kinds.specs.declared.laws.Reckoned.{Ghosts}
 use Rattle.kinds.specs.declared.refusal.Refusal.TheVariants.{NoPlace, NoCells, NothingToStrike, AlreadyParked, WrongSlip}
@@ -9,8 +9,7 @@ use Rattle.ledgers.specs.Law.{closed_history, history, replies}
 use Rattle.ledgers.specs.declared.call.Call as asked
 use Rattle.ledgers.specs.declared.call.Call.TheVariants.{Enter, Correct, Shift, Strike, Park, Restore, GiveUp, At, Total, Count}
 use Rattle.runs.specs.Places.{part}
-use Rattle.sheets.specs.History.{History, answer, begun, restore}
-use Rattle.sheets.specs.declared.answer.Answer.{Answer}
+use Rattle.sheets.specs.History.{answer, restore}
 use Rattle.sheets.specs.declared.answer.Answer.TheVariants.{Number, Entry, Slip}
 
 -- the integers under addition serve as entries here (`negsuc n` is −(n + 1))
