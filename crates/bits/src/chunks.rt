@@ -60,6 +60,7 @@ pub fn read_chunk(words: &[u32], width: Width, t: usize) -> u32
 
 /// Puts the lowest bits of `x` in the place of chunk `t` of a part, chunks counted from 0, and leaves
 /// every other chunk as it was. Answers whether the part has that chunk; if not, nothing is written.
+// a `bool`, since nothing stands beside it that an `Option` would hold
 pub fn write_chunk(words: &mut [u32], width: Width, t: usize, x: u32) -> bool
     ensures written { MatchBool result (Put (bits_of width) t x words.old words.new) (words.new ≡ words.old) }
     ensures within { MatchBool result (bits_of width * t < 32 * length words.old) (32 * length words.old ≤ bits_of width * t) }

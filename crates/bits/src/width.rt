@@ -3,7 +3,7 @@ ghost use Rattle.std.specs.Prelude.{◌≡◌};
 ghost use Rattle.bits.specs.Packed.{bits_of};
 
 /// A width that a chunk may have. None crosses from one word of 32 bits into the next.
-#[derive(Clone, Copy, PartialEq, Eq, Hash, Debug)]
+#[derive(Clone, Copy, PartialEq, Eq, Debug)]
 pub enum Width {
     /// 1 bit.
     One = 1,

@@ -1,8 +1,7 @@
 //! Words of 32 bits.
 ghost use Rattle.std.specs.Prelude.{◌≡◌, ℕ, ◌%◌, ◌^◌, ◌<◌, slice_index};
 
-// The word of a place, and zero past the last; and that every word has 32 bits, which is known where a
-// part is only read, and wanted where it is written.
+// The word of a place, and zero past the last. It also tells its caller that every word has 32 bits.
 pub(crate) fn word_at(words: &[u32], i: usize) -> u32
     ensures word { result ≡ slice_index words.now i }
     ensures narrow { (k : ℕ) → slice_index words.now k < 2 ^ 32 }

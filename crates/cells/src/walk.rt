@@ -21,6 +21,7 @@ pub(crate) fn others<K: Reckoned>(cells: &[K], place: Place) -> K
     ensures { result ≡ besides K.Reckoned.own cells.now place.number }
 {
     let mut sum = K::zero();
+    // t is an exponent, and no index of anything
     for t in 0..place.number.trailing_zeros() {
         let before = Place {
             number: place.number - power(t),
@@ -62,7 +63,7 @@ pub(crate) fn raise<K: Reckoned>(cells: &mut [K], count: u32, place: Place, amou
     }
 }
 
-// Sets the first so many cells to zero.
+// Sets the first so many cells of a whole table to zero, as `raise` takes one.
 pub(crate) fn clear<K: Reckoned>(cells: &mut [K], count: usize)
     requires { count ≤ length cells.old }
     ensures { cells.new ≡ replicate count K.zero ++ drop count cells.old }

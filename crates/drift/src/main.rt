@@ -42,7 +42,8 @@ fn compare(rt: &HostRuntime, first: &str, second: &str) -> anyhow::Result<()> {
     Ok(())
 }
 
-// Reads a log and prints what is in it, or which line of it was refused.
+// Reads a log and prints what is in it, or which line of it was refused. What it has in common with
+// `season_of` of `season_drift` reads a file and prints, of which a library could promise nothing.
 fn drives_of(rt: &HostRuntime, name: &str) -> anyhow::Result<Option<Vec<Steps>>> {
     let bytes = fs::read(rt, name)?;
     match read_log(rt.alloc(), bytes.as_slice()) {

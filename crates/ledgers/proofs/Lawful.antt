@@ -1,5 +1,5 @@
 -- The law of sheets: lists of calls, and cells that equal entries decide. Assumes nothing.
-use Rattle.std.proofs.Common.{◌≡◌, ℕ, ◌+◌, ◌-◌, ◌<◌, ◌≤◌, Bool, true, false, ◌⊎◌, List, [], ◌∷◌, ◌++◌, map, length, get_or, drop, Some, None, vec_items, MatchBool, Option, sym, refl, ap, ◌∙◌, subst, inl, inr, arith}
+use Rattle.std.proofs.Common.{◌≡◌, ℕ, ◌+◌, ◌-◌, ◌<◌, ◌≤◌, Bool, true, false, ◌⊎◌, List, [], ◌∷◌, ◌++◌, map, length, get_or, drop, take, Some, None, vec_items, MatchBool, Option, sym, refl, ap, ◌∙◌, subst, inl, inr, arith}
 use Rattle.cells.proofs.Decoding.{length-decoded, cell_right}
 use Rattle.cells.proofs.Raising.{decoded_same}
 use Rattle.cells.proofs.Reach.{span_largest}
@@ -17,6 +17,14 @@ use Rattle.sheets.specs.Sheets.{Follows, Keeps, SameBook, cells_of, entries_of}
 use Rattle.sheets.specs.declared.sheet.Sheet.{Sheet}
 use Rattle.std.proofs.lemmas.List.{ext_get_or, get_or-take, length-take}
 use Rattle.std.proofs.lemmas.Bool.{cases_lt}
+
+-- what is the same of two tables that are cut is the same of their first so many
+pub cut_same : {K : Type 0} (z : K) (b : Bool) (xs ys : List K) (n : ℕ) → n ≤ length xs → n ≤ length ys → MatchBool b ((k : ℕ) → k < length (take n xs) → get_or (take n xs) k z ≡ get_or (take n ys) k z) ((k : ℕ) × (k < length (take n xs)) × (get_or (take n xs) k z ≡ get_or (take n ys) k z → ⊥)) → MatchBool b ((k : ℕ) → k < n → get_or xs k z ≡ get_or ys k z) ((k : ℕ) × (k < n) × (get_or xs k z ≡ get_or ys k z → ⊥))
+cut_same z true xs ys n first second same = λ k h. sym (get_or-take n xs k z h) ∙ same k (omega (arith, length-take n xs)) ∙ get_or-take n ys k z h
+cut_same z false xs ys n first second differ =
+    let k = differ.0 in
+    let within : k < n = omega (arith, differ.1, length-take n xs) in
+    (k, within, λ e. differ.2 (get_or-take n xs k z within ∙ e ∙ sym (get_or-take n ys k z within)))
 
 module _ {K : Type 0} (R : Reckoned.Ghosts K) where
   -- no call alters how many cells there are

@@ -18,6 +18,7 @@ impl<K: Reckoned> Ledger<K> {
         ensures unchanged { TurnedDown result self.old self.new }
         ensures follows_history { Follows K.Kind K.Reckoned.own (by_slip self.old.sheet.unit call) self.old.sheet self.new.sheet result }
     {
+        // a call is data, which the law takes lists of, and no step to look up
         match call {
             Call::Enter(e) => Ok(Answer::Number(self.enter(e)?)),
             Call::Correct(place, e) => Ok(Answer::Entry(self.correct(place, e)?)),

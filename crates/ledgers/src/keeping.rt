@@ -36,6 +36,7 @@ fn held_again(held: &mut Option<Slip>, told: Result<u32, HandedBack>) -> Result<
 
 impl<K: Reckoned> Ledger<K> {
     /// A ledger of a sheet of no entries, made of `table` as `Sheet::make` says.
+    // by rule made of these two, as a sheet
     pub fn make(unit: u32, table: Vec<K>) -> Self
         ensures begins_history { Keeps K.Kind K.Reckoned.own (begun K.Reckoned.own unit (own (vec_len table))) result.sheet }
         ensures long { vec_len result.sheet.cells.table ≡ vec_len table }

@@ -45,6 +45,7 @@ fn total_of<K: Reckoned>(book: &ClosedSheet<K>) -> K
 /// Whatever the calls are, the total is what the history of the calls says, every answer is the
 /// history's, and every cell holds what its place asks for. Refused with 24, and only for want of
 /// memory for the answers, before anything is done.
+// by rule a sheet is made of a unit number and a table
 pub fn replay<K: Reckoned>(
     heap: Global,
     unit: u32,

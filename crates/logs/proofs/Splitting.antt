@@ -2,7 +2,7 @@
 use Rattle.std.proofs.Common.{◌≡◌, ℕ, zero, suc, ◌+◌, ◌-◌, ◌<◌, ◌≤◌, List, [], ◌∷◌, ◌++◌, map, length, get_or, take, drop, Some, None, cond, eqb, Result, Vec, Ok, Err, sym, refl, inl, inr, subst, ⊎_elim, ap, ◌∙◌, arith}
 use Rattle.kinds.specs.Refusals.{refusal}
 use Rattle.logs.specs.Logs.{lines, grown, Reached, Reads}
-use Rattle.std.proofs.lemmas.List.{length-map, length-append, take_at, get_or_at, take_all, drop_all, length-drop}
+use Rattle.std.proofs.lemmas.List.{get_or-drop, drop-drop, length-map, length-append, take_at, get_or_at, take_all, drop_all, length-drop}
 use Rattle.std.proofs.lemmas.List.Quantifiers.{position-Some}
 use Rattle.std.proofs.lemmas.Bool.{eq-eqb, ne_eqb, eqb-true, false≢true, lt-ltb, cases_lt}
 use Rattle.std.specs.List.{position, position_or_len}
@@ -21,6 +21,16 @@ first_line (b ∷ []) (suc (suc n)) some within plain found = absurd (omega arit
 first_line (b ∷ (c ∷ cs)) (suc n) some within plain found =
     let rest = first_line (c ∷ cs) n (omega arith) (omega arith) (λ k h. plain (suc k) (omega arith)) (λ h. found (omega arith)) in
     rw (ne_eqb b 10 (plain 0 (omega arith)), rest)
+
+module _ (log : List ℕ) (start end : ℕ) (some : start < length log) (from : start ≤ end) (upto : end ≤ length log) (plain : (k : ℕ) → start ≤ k → k < end → get_or log k 0 ≡ 10 → ⊥) (found : end < length log → get_or log end 0 ≡ 10) where
+  -- the next line of a log, and what is left of it
+  next_line : lines (drop start log) ≡ take (end - start) (drop start log) ∷ lines (drop (end + 1) log)
+  next_line =
+      let len = length-drop start log in
+      first_line (drop start log) (end - start) (omega arith) (omega arith)
+      (λ k h e. plain (start + k) (omega arith) (omega arith) (sym (get_or-drop start log k 0) ∙ e))
+      (λ h. get_or-drop start log (end - start) 0 ∙ ap (λ j. get_or log j 0) (omega arith) ∙ found (omega arith))
+      ∙ ap (λ l. take (end - start) (drop start log) ∷ lines l) (drop-drop (suc (end - start)) start log ∙ ap (λ j. drop j log) (omega arith))
 
 -- the first newline ends the first line
 pub ended_line : (bs : List ℕ) (n : ℕ) → position (λ b. eqb b 10) bs ≡ Some n → lines bs ≡ take n bs ∷ lines (take (length bs - (n + 1)) (drop (n + 1) bs))

@@ -6,7 +6,7 @@ ghost use Rattle.std.specs.Prelude.{◌≡◌, ◌==◌, [], ◌∷◌, MatchOpt
 /// The lines of a log that are left, each without its newline.
 // not `split_inclusive`: rattle takes no invariant of a `for` over it in a generic function
 #[derive(Drop)]
-pub struct Lines<'a>(pub &'a [u8]);
+pub(crate) struct Lines<'a>(pub(crate) &'a [u8]);
 
 impl<'a> Iterator for Lines<'a> {
     type Item = &'a [u8];

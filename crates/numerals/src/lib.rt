@@ -26,6 +26,7 @@ pub fn read_unsigned(text: &[u8]) -> Option<u32>
 pub fn read_signed(text: &[u8]) -> Option<i32>
     ensures { MatchOption result ((z : ℤ) → mag z < 2 ^ 31 → signed_decimal z ≢ text.now) (λ z. signed_decimal z ≡ text.now) }
 {
+    // by rule the minus and the digits are told by char literals
     match text {
         [first, digits @ ..] if char::from(*first) == '-' => negative(digits),
         _ => positive(text),

@@ -1,9 +1,7 @@
 //! How often each entry of a run of steps occurs.
 ghost use Rattle.kinds.specs.Refusals.{OrNoMemory};
-ghost use Rattle.kinds.specs.Steps.{numbering};
 ghost use Rattle.reports.specs.Tally.{CountsEach, IsOfEntry, record_of};
 ghost use Rattle.std.specs.Prelude.{◌≡◌, All, IfOk, map};
-ghost use Rattle.tallies.specs.Tallies.{Tallied};
 
 use crate::counted::Counted;
 use kinds::{Kind, Refusal, Steps};

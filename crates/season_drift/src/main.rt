@@ -74,12 +74,13 @@ fn compare(rt: &HostRuntime, first: &str, second: &str, copy: Option<&str>) -> a
     Ok(())
 }
 
-// Reads a log, replays it and prints its book, or which line of it says nothing.
+// Reads a log, replays it and prints its book, or which line of it was refused.
 fn season_of(rt: &HostRuntime, name: &str) -> anyhow::Result<Option<Season>> {
     let bytes = fs::read(rt, name)?;
     match read_log(rt.alloc(), bytes.as_slice()) {
         Ok(lines) => {
             let replayed = replay_log(rt.alloc(), UNIT, lines.as_slice())?;
+            show_refused(rt, name, &replayed)?;
             show_book(rt, name, &replayed)?;
             Ok(Some(Season { lines, replayed }))
         }
@@ -90,10 +91,8 @@ fn season_of(rt: &HostRuntime, name: &str) -> anyhow::Result<Option<Season>> {
     }
 }
 
-// Prints the lines that the book refused, how many entries it has, their total, and how often each
-// entry occurs.
-fn show_book(rt: &HostRuntime, name: &str, season: &Replayed<Steps>) -> anyhow::Result<()> {
-    let word = Word::Entry;
+// Prints the lines that the book refused.
+fn show_refused(rt: &HostRuntime, name: &str, season: &Replayed<Steps>) -> anyhow::Result<()> {
     for (before, answer) in season.answers.iter().enumerate() {
         if let Err(refusal) = *answer {
             let line = before as u64 + 1;
@@ -101,6 +100,12 @@ fn show_book(rt: &HostRuntime, name: &str, season: &Replayed<Steps>) -> anyhow::
             rt.println(Refused { name, bad })?;
         }
     }
+    Ok(())
+}
+
+// Prints how many entries a book has, their total, and how often each entry occurs.
+fn show_book(rt: &HostRuntime, name: &str, season: &Replayed<Steps>) -> anyhow::Result<()> {
+    let word = Word::Entry;
     rt.println(Summary {
         name,
         word,

@@ -13,6 +13,9 @@ fn weight(line: LogLine) -> i64 {
     }
 }
 
+// This, `bad` and the first test are as in `log_trials`: each instance of `read_log` has its tests, and
+// a library for these few lines would be longer.
+
 // The lines of a log added up, or its first bad line.
 fn read(heap: Global, log: &[u8]) -> Result<i64, BadLine> {
     let lines: Vec<LogLine> = read_log(heap, log)?;

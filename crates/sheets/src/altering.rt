@@ -34,6 +34,7 @@ impl<K: Reckoned> Sheet<K> {
         }
         Ok(add(&mut self.cells, entry))
     }
+
     /// Puts `entry` at `place` and answers the entry that stood there. Refused with 1 exactly when
     /// the place is 0 or above the count.
     pub fn correct(&mut self, place: u32, entry: K) -> Result<K, Refusal>

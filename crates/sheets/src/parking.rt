@@ -10,7 +10,7 @@ use crate::sheet::Sheet;
 use crate::slip::{HandedBack, Slip};
 use kinds::{Kind, Reckoned, Refusal};
 
-// The amount that a number denotes; a kept number always denotes one.
+// The amount that a number denotes; by rule it is kept as its number, which always denotes one.
 fn amount_of<K: Reckoned>(number: u32) -> K
     ensures { (t : K) → K.Kind.number t ≡ number → result ≡ t }
 {

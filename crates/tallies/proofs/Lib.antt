@@ -1,4 +1,5 @@
 pub mod Counting
 pub mod Differing
 pub mod Distinct
+pub mod Rising
 pub mod Sums

@@ -16,6 +16,7 @@ use std::collections::BTreeMap;
 /// front of `records`, and answers how many. Refused with 17 when there are too few records, and
 /// only then, or with 24 for want of memory; no record is written then. In which order the records
 /// stand is not promised.
+// by rule the table is the caller's, and too few records are refused
 pub fn tally<R: Run>(heap: Global, run: &R, records: &mut [TallyRecord]) -> Result<u32, Refusal>
     ensures { Answered (map R.Entry.Kind.number (R.Run.entries run.now)) records.old records.new result }
 {
