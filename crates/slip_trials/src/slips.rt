@@ -38,7 +38,10 @@ fn turned_away(sheet: &mut Sheet<Steps>, slip: Slip) -> HandedBack
 // Parks two sheets, brings the slip of the first to the second, and then each slip home. Answers the
 // refusal, the unit number on the slip that was handed back, and both counts at last.
 fn crossed(home: &mut Sheet<Steps>, away: &mut Sheet<Steps>) -> Option<(Refusal, u32, u32, u32)> {
-    let slip = home.park().ok()?;
+    // not `ok()?`, with which the proof did not close
+    let Ok(slip) = home.park() else {
+        return None;
+    };
     if slip.unit() == away.unit() {
         ended(home, slip);
         return None;
