@@ -1,5 +1,5 @@
 -- What the laws of a group give of totals. Assumes nothing.
-use Rattle.std.proofs.Common.{◌≡◌, ℕ, zero, suc, ◌+◌, ◌<◌, List, [], ◌∷◌, ◌++◌, length, get_or, take, set, fold, sym, refl, ap, ◌∙◌, arith}
+use Rattle.std.proofs.Common.{◌≡◌, ℕ, zero, suc, ◌+◌, ◌<◌, List, [], ◌∷◌, ◌++◌, length, get_or, take, set, sym, refl, ap, ◌∙◌, arith}
 use Rattle.kinds.specs.Totals.{total, Group}
 use Rattle.kinds.specs.declared.laws.Reckoned.{Ghosts}
 use Rattle.std.proofs.lemmas.List.{take_more, take_all}
@@ -39,11 +39,6 @@ module _ {K : Type 0} {R : Ghosts K} (laws : Group R) where
   pub total-append : (xs ys : List K) → total R (xs ++ ys) ≡ R.join (total R xs) (total R ys)
   total-append [] ys = sym (laws.left (total R ys))
   total-append (x ∷ xs) ys = ap (R.join x) (total-append xs ys) ∙ sym (laws.associative x (total R xs) (total R ys))
-
-  -- joined one after another to what there was before
-  pub fold-total : (s : K) (xs : List K) → fold R.join s xs ≡ R.join s (total R xs)
-  fold-total s [] = sym (laws.right s)
-  fold-total s (x ∷ xs) = fold-total (R.join s x) xs ∙ laws.associative s x (total R xs)
 
   -- one entry more at the end
   pub total-push : (xs : List K) (x : K) → total R (xs ++ (x ∷ [])) ≡ R.join (total R xs) x
