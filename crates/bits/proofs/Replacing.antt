@@ -25,7 +25,7 @@ module _ (word s b x : ℕ) (fits : s + b ≤ 32) (below : word < 2 ^ 32) where
   abbrev put : ℕ
   put = x % 2 ^ b
 
-  parts : word ≡ above * 2 ^ b * 2 ^ s + chunk * 2 ^ s + under
+  pub parts : word ≡ above * 2 ^ b * 2 ^ s + chunk * 2 ^ s + under
   parts =
       sym (div-add-mod' word (2 ^ s))
       ∙ ap (λ n. n * 2 ^ s + under) (sym (div-add-mod' (word / 2 ^ s) (2 ^ b)))
@@ -38,7 +38,7 @@ module _ (word s b x : ℕ) (fits : s + b ≤ 32) (below : word < 2 ^ 32) where
       shr_lt (32 - s - b) b (subst (λ k. word / 2 ^ s < 2 ^ k) f (shr_lt (32 - s) s (subst (λ k. word < 2 ^ k) e below)))
 
   -- the word with another chunk fits
-  put_lt : above * 2 ^ b * 2 ^ s + put * 2 ^ s + under < 2 ^ 32
+  pub put_lt : above * 2 ^ b * 2 ^ s + put * 2 ^ s + under < 2 ^ 32
   put_lt =
       let e : 32 - s - b + b + s ≡ 32 = omega arith in
       let top = cat_lt (32 - s - b) b above put above_lt (mod-lt x (pow_pos b)) in

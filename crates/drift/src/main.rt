@@ -4,9 +4,10 @@
 use anyhow::anyhow;
 use kinds::Steps;
 use logs::read_log;
-use reports::{PartingLine, Refused, Summary, TallyLine, Word, tally_of};
+use reports::{PartingLine, Refused, Summary, TallyLine, Word, tally_with};
 use runs::{Run, first_parting, position};
 use std::{env, fs};
+use tallies::blank_records;
 
 // The sample season, in the folder that the program is run in: one unit, set to auto changeover and
 // set to heating only.
@@ -70,7 +71,8 @@ fn show_log(rt: &HostRuntime, name: &str, drives: &[Steps]) -> anyhow::Result<()
         count,
         end,
     })?;
-    for &counted in tally_of(rt.alloc(), &drives)?.iter() {
+    let table = blank_records(rt.alloc(), &drives)?;
+    for &counted in tally_with(rt.alloc(), &drives, table)?.iter() {
         rt.println(TallyLine { word, counted })?;
     }
     Ok(())

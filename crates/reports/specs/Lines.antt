@@ -14,9 +14,13 @@ abbrev pub word_text : Word → List ℕ
 word_text Drive = codes "drive"
 word_text Entry = codes "entry"
 
+-- a line of a log that was refused with a number
+abbrev pub line_refused_text : List ℕ → ℕ → ℕ → List ℕ
+line_refused_text name line number = name ++ (codes ": line " ++ (decimal line ++ (codes " refused with " ++ decimal number)))
+
 -- a line of a log that was refused
 abbrev pub refused_text : List ℕ → BadLine → List ℕ
-refused_text name bad = name ++ (codes ": line " ++ (decimal bad.line ++ (codes " refused with " ++ decimal (number bad.refusal))))
+refused_text name bad = line_refused_text name bad.line (number bad.refusal)
 
 -- how many drives a log has and where it ends, or how many entries a book has and their total
 abbrev pub summary_text : Word → List ℕ → ℕ → Steps → List ℕ
@@ -35,7 +39,11 @@ totals_text gap = codes "The totals part by " ++ (signed_decimal gap ++ codes " 
 abbrev pub agreement_text : List ℕ → List ℕ → Bool → List ℕ
 agreement_text first second agree = first ++ (codes " and " ++ (second ++ (if agree then codes " agree entry for entry" else (codes " do not agree entry for entry"))))
 
+-- after how many entries two positions part, where each then is, and by how many steps
+abbrev pub parted_text : Word → ℕ → Steps → Steps → ℤ → List ℕ
+parted_text word after first second gap = codes "The positions part after " ++ (word_text word ++ (codes " " ++ (decimal after ++ (codes ": " ++ (signed_decimal first.value ++ (codes " and " ++ (signed_decimal second.value ++ (codes ", by " ++ (signed_decimal gap ++ codes " steps")))))))))
+
 -- where the positions part and by how much, or that they never do
 abbrev pub parting_text : Word → Option Parting → List ℕ
 parting_text word None = codes "The positions never part, as far as both logs go."
-parting_text word (Some p) = codes "The positions part after " ++ (word_text word ++ (codes " " ++ (decimal p.after ++ (codes ": " ++ (signed_decimal p.first.value ++ (codes " and " ++ (signed_decimal p.second.value ++ (codes ", by " ++ (signed_decimal (p.first.value -ℤ p.second.value) ++ codes " steps")))))))))
+parting_text word (Some p) = parted_text word p.after p.first p.second (p.first.value -ℤ p.second.value)

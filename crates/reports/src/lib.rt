@@ -9,7 +9,7 @@ mod tallying;
 mod word;
 
 pub use counted::Counted;
-pub use line::{Agreement, Refused, Summary, TallyLine, TotalsGap};
-pub use parting::PartingLine;
-pub use tallying::tally_of;
+pub use line::{Agreement, LineRefused, Refused, Summary, TallyLine, TotalsGap};
+pub use parting::{PartedAfter, PartingLine};
+pub use tallying::{tally_of, tally_with};
 pub use word::Word;

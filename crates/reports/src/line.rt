@@ -1,5 +1,5 @@
 //! The lines of a report.
-ghost use Rattle.reports.specs.Lines.{agreement_text, refused_text, summary_text, tally_text, totals_text};
+ghost use Rattle.reports.specs.Lines.{agreement_text, line_refused_text, refused_text, summary_text, tally_text, totals_text};
 ghost use Rattle.std.specs.Prelude.{Some};
 
 use crate::counted::Counted;
@@ -21,9 +21,31 @@ impl<'a> fmt::Display for Refused<'a> {
     ghost output = { λ refused. Some (refused_text refused.name.now refused.bad) };
 
     fn fmt<W: fmt::Write>(&self, f: &mut fmt::Formatter<W>) -> fmt::Result {
-        let name = self.name;
-        let line = self.bad.line;
-        let number = self.bad.refusal.number();
+        let told = LineRefused {
+            name: self.name,
+            line: self.bad.line,
+            number: self.bad.refusal.number(),
+        };
+        write!(f, "{told}")
+    }
+}
+
+/// A line of a log that was refused with a number, whatever the number is.
+#[derive(Clone, Copy, PartialEq, Eq, Debug)]
+pub struct LineRefused<'a> {
+    /// The log's name.
+    pub name: &'a str,
+    /// Which line.
+    pub line: u64,
+    /// The number of the refusal.
+    pub number: u8,
+}
+
+impl<'a> fmt::Display for LineRefused<'a> {
+    ghost output = { λ told. Some (line_refused_text told.name.now told.line told.number) };
+
+    fn fmt<W: fmt::Write>(&self, f: &mut fmt::Formatter<W>) -> fmt::Result {
+        let LineRefused { name, line, number } = *self;
         write!(f, "{name}: line {line} refused with {number}")
     }
 }

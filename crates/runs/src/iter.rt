@@ -33,6 +33,6 @@ impl<'a, R: Run> Iterator for Iter<'a, R> {
             return None;
         }
         self.given += 1;
-        self.run.at(self.given).ok()
+        Some(self.run.at(self.given).unwrap())
     }
 }

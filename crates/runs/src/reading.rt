@@ -11,6 +11,9 @@ use std::alloc::Global;
 pub fn numbers_of<R: Run>(heap: Global, run: &R) -> Result<Vec<u32>, Refusal>
     ensures { OrNoMemory result (λ v. v.items ≡ map R.Entry.Kind.number (R.Run.entries run.now)) }
 {
-    let numbers = Iter::over(run).map(|entry| entry.number()).collect(heap)?;
+    let mut numbers = Vec::with_capacity(heap, run.count() as usize)?;
+    for entry in Iter::over(run) {
+        numbers.push_reserved(entry.number());
+    }
     Ok(numbers)
 }

@@ -3,6 +3,7 @@ ghost use Rattle.std.specs.Prelude.{◌^◌, ◌<◌, length};
 
 use crate::iter::Iter;
 use crate::meaning::Run;
+use crate::place::Place;
 use kinds::{Kind, Reckoned, Refusal};
 use std::alloc::Global;
 
@@ -28,7 +29,7 @@ impl<K: Reckoned> Totals<K> {
         let mut sum = K::zero();
         for entry in Iter::over(run) {
             sum = sum.join(entry);
-            joins.push(sum)?;
+            joins.push_reserved(sum);
         }
         Ok(Totals { joins })
     }
@@ -46,6 +47,7 @@ impl<K: Kind> Run for Totals<K> {
     }
 
     fn at(&self, place: u32) -> Result<K, Refusal> {
-        self.joins.as_slice().at(place)
+        let place = Place::among(place, self.count())?;
+        Ok(self.joins[place.index()])
     }
 }

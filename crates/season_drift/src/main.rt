@@ -2,14 +2,16 @@
 #![tactic(auto)]
 
 use anyhow::anyhow;
-use kinds::Steps;
+use kinds::{Refusal, Steps};
 use ledgers::{Replayed, agrees};
 use logs::{BadLine, read_log};
-use reports::{Agreement, PartingLine, Refused, Summary, TallyLine, TotalsGap, Word, tally_of};
+use reports::{Agreement, PartingLine, Refused, Summary, TallyLine, TotalsGap, Word, tally_with};
 use runs::{Run, first_parting};
 use season_logs::LogLine;
 use seasons::{replay_log, steps_apart};
+use sheets::{Answer, ClosedSheet};
 use std::{env, fs};
+use tallies::blank_records;
 
 // The sample season, in the folder that the program is run in: one unit set to auto changeover, set
 // to heating only, and the fitter's own copy of the first log.
@@ -18,20 +20,21 @@ const SAMPLE: [&str; 3] = ["auto.txt", "heating.txt", "fitter.txt"];
 // The unit number of the books.
 const UNIT: u32 = 1;
 
-// The lines of a log, and the season that they are.
+// What a line of a log was answered.
+type Reply = Result<Answer<Steps>, Refusal>;
+
+// The book of a log, and what is asked of its lines later. The lines and what each was answered are not
+// kept: they take five times the memory of the book.
 #[derive(Drop)]
 struct Season {
-    lines: Vec<LogLine>,
-    replayed: Replayed<Steps>,
+    book: ClosedSheet<Steps>,
+    total: Steps,
+    has_drives_alone: bool,
 }
 
-impl Season {
-    // Whether the log has drives alone, and none of the words of a changeover.
-    fn has_drives_alone(&self) -> bool {
-        self.lines
-            .iter()
-            .all(|line| matches!(line, LogLine::Drive(_)))
-    }
+// Whether a log has drives alone, and none of the words of a changeover.
+fn has_drives_alone(lines: &[LogLine]) -> bool {
+    lines.iter().all(|line| matches!(line, LogLine::Drive(_)))
 }
 
 fn main(rt: HostRuntime) -> anyhow::Result<()> {
@@ -70,7 +73,7 @@ fn compare(rt: &HostRuntime, first: &str, second: &str, copy: Option<&str>) -> a
     rt.println(Agreement {
         first,
         second: copy,
-        agree: agrees(&a.replayed.book, &c.replayed.book),
+        agree: agrees(&a.book, &c.book),
     })?;
     Ok(())
 }
@@ -80,10 +83,18 @@ fn season_of(rt: &HostRuntime, name: &str) -> anyhow::Result<Option<Season>> {
     let bytes = fs::read(rt, name)?;
     match read_log(rt.alloc(), bytes.as_slice()) {
         Ok(lines) => {
-            let replayed = replay_log(rt.alloc(), UNIT, lines.as_slice())?;
-            show_refused(rt, name, &replayed)?;
-            show_book(rt, name, &replayed)?;
-            Ok(Some(Season { lines, replayed }))
+            let Replayed {
+                book,
+                total,
+                answers,
+            } = replay_log(rt.alloc(), UNIT, lines.as_slice())?;
+            show_refused(rt, name, answers.as_slice())?;
+            show_book(rt, name, &book, total)?;
+            Ok(Some(Season {
+                book,
+                total,
+                has_drives_alone: has_drives_alone(lines.as_slice()),
+            }))
         }
         Err(bad) => {
             rt.println(Refused { name, bad })?;
@@ -93,8 +104,8 @@ fn season_of(rt: &HostRuntime, name: &str) -> anyhow::Result<Option<Season>> {
 }
 
 // Prints the lines that the book refused.
-fn show_refused(rt: &HostRuntime, name: &str, season: &Replayed<Steps>) -> anyhow::Result<()> {
-    for (before, answer) in season.answers.iter().enumerate() {
+fn show_refused(rt: &HostRuntime, name: &str, replies: &[Reply]) -> anyhow::Result<()> {
+    for (before, answer) in replies.iter().enumerate() {
         if let Err(refusal) = *answer {
             let line = before as u64 + 1;
             let bad = BadLine { line, refusal };
@@ -105,15 +116,21 @@ fn show_refused(rt: &HostRuntime, name: &str, season: &Replayed<Steps>) -> anyho
 }
 
 // Prints how many entries a book has, their total, and how often each entry occurs.
-fn show_book(rt: &HostRuntime, name: &str, season: &Replayed<Steps>) -> anyhow::Result<()> {
+fn show_book(
+    rt: &HostRuntime,
+    name: &str,
+    book: &ClosedSheet<Steps>,
+    end: Steps,
+) -> anyhow::Result<()> {
     let word = Word::Entry;
     rt.println(Summary {
         name,
         word,
-        count: season.book.count(),
-        end: season.total,
+        count: book.count(),
+        end,
     })?;
-    for &counted in tally_of(rt.alloc(), &season.book)?.iter() {
+    let table = blank_records(rt.alloc(), book)?;
+    for &counted in tally_with(rt.alloc(), book, table)?.iter() {
         rt.println(TallyLine { word, counted })?;
     }
     Ok(())
@@ -122,11 +139,11 @@ fn show_book(rt: &HostRuntime, name: &str, season: &Replayed<Steps>) -> anyhow::
 // Prints by how many steps the totals of two books part and, where both logs have drives alone, after
 // which entry the positions first do.
 fn show_gap(rt: &HostRuntime, a: &Season, b: &Season) -> anyhow::Result<()> {
-    rt.println(TotalsGap(steps_apart(a.replayed.total, b.replayed.total)))?;
-    if a.has_drives_alone() && b.has_drives_alone() {
+    rt.println(TotalsGap(steps_apart(a.total, b.total)))?;
+    if a.has_drives_alone && b.has_drives_alone {
         rt.println(PartingLine {
             word: Word::Entry,
-            parting: first_parting(&a.replayed.book, &b.replayed.book),
+            parting: first_parting(&a.book, &b.book),
         })?;
     }
     Ok(())

@@ -1,8 +1,9 @@
 -- A tally has as many records as there are different numbers. Assumes nothing.
-use Rattle.std.proofs.Common.{◌≡◌, ℕ, ◌<◌, ◌≤◌, cond, eqb, ltb, List, [], ◌∷◌, length, take, drop, Ok, Err, sum_by, Result, sym, refl, ap, ◌∙◌, subst, inl, arith}
+use Rattle.std.proofs.Common.{◌≡◌, ℕ, ◌<◌, ◌≤◌, cond, eqb, ltb, List, [], ◌∷◌, length, take, drop, Ok, Err, sum_by, Result, sym, refl, ap, ◌∙◌, subst, inl, inr, arith}
+use Rattle.kinds.specs.Refusals.{refusal}
 use Rattle.kinds.specs.declared.refusal.Refusal.{Refusal}
-use Rattle.tallies.specs.Counts.{Written}
-use Rattle.tallies.specs.Tallies.{times, different, Tallied, Answered}
+use Rattle.tallies.specs.Groups.{Written}
+use Rattle.tallies.specs.Tallies.{times, different, Tallied, Untallied, Answered}
 use Rattle.tallies.specs.declared.records.TallyRecord.{TallyRecord}
 use Rattle.tallies.proofs.Sums.{all_different}
 use Rattle.std.proofs.lemmas.Bool.{lt-ltb}
@@ -53,3 +54,8 @@ answered ns rs before after (Ok n) t w =
     let back : drop n after ≡ drop n before = ap (drop n) w.2 ∙ drop_at rs (drop n before) n (sym w.0) in
     (w.0 ∙ tally_length ns rs t, w.1, subst (Tallied ns) (sym front) t, back)
 answered ns rs before after (Err f) t w = (w.2, inl (w.0, omega (arith, w.1, tally_length ns rs t)))
+
+-- a table with a record for each number is never too short
+pub enough : (ns : List ℕ) (table : List TallyRecord) (f : Refusal) → length ns ≤ length table → Untallied ns table f → f ≡ refusal 24
+enough ns table f long (inl short) = absurd (omega (arith, short.1, different_few ns))
+enough ns table f long (inr want) = want

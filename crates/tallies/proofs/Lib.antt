@@ -1,4 +1,3 @@
-pub mod Counting
 pub mod Differing
 pub mod Distinct
 pub mod Rising

@@ -1,20 +1,14 @@
--- Counting the numbers of a list one at a time, as records. Assumes nothing.
-use Rattle.std.proofs.Common.{◌≡◌, ℕ, ◌+◌, ◌-◌, ◌<◌, ◌≤◌, Bool, true, false, cond, eqb, List, [], ◌∷◌, ◌++◌, length, get_or, set, take, sum_by, sym, refl, ap, ◌∙◌, subst, arith}
+-- The groups of a list that rises, one number at a time. Assumes nothing.
+use Rattle.std.proofs.Common.{◌≡◌, ℕ, ◌+◌, ◌-◌, ◌^◌, ◌<◌, ◌≤◌, Bool, true, false, cond, eqb, List, [], ◌∷◌, ◌++◌, length, get_or, set, take, sum_by, sym, refl, ap, ◌∙◌, subst, inl, inr, arith}
+use Rattle.tallies.specs.Groups.{group, last_of, Noted}
 use Rattle.tallies.specs.Tallies.{times, records_for, Tallied}
 use Rattle.tallies.specs.declared.records.TallyRecord.{TallyRecord}
 use Rattle.std.proofs.lemmas.List.Elements.{All-nil, All-cons, All-head, All-tail, All-push, All-set, All-weaker, All-from_get_or}
-use Rattle.std.proofs.lemmas.List.{append_assoc, length_push, length-take-le, get_or-take}
-use Rattle.std.proofs.lemmas.List.Sums.{sum_by-cons, sum_by-append, sum_by_push, sum_by-set}
+use Rattle.std.proofs.lemmas.List.{append_assoc, get_or_default, length_push, length-set, length-take-le, get_or-take, get_or_push, get_or-set_same, take_more}
+use Rattle.std.proofs.lemmas.List.Sums.{sum_by-cons, sum_by-append, sum_by_push, sum_by-set, get_or-le-sum_by}
 use Rattle.std.proofs.lemmas.Bool.{eqb-true, eq-eqb, ne_eqb}
 use Rattle.std.specs.List.{All}
 use Rattle.std.specs.List.Sorted.{IsNonDecreasing}
-
-abbrev pub group : ℕ → ℕ → TallyRecord
-group n t = record { number = n; times = t }
-
--- the last record, where there is one
-abbrev pub last_of : List TallyRecord → TallyRecord
-last_of gs = get_or gs (length gs - 1) (group 0 0)
 
 -- what the records say of n
 abbrev told : ℕ → TallyRecord → ℕ
@@ -128,6 +122,19 @@ pub record Grouped (s : List ℕ) (i : ℕ) (gs : List TallyRecord) : Type 0 whe
   pub some : 0 < i → 0 < length gs
   pub last : 0 < i → (last_of gs).number ≡ get_or s (i - 1) 0
 
+pub grouped_none : (s : List ℕ) (gs : List TallyRecord) → gs ≡ [] → Grouped s 0 gs
+grouped_none s gs e = record {
+  counted = subst (Counted []) (sym e) counted_none;
+  some = λ h. absurd (omega arith);
+  last = λ h. absurd (omega arith);
+}
+
+-- a group counts no more than was read
+pub grouped_room : (s : List ℕ) (i : ℕ) (gs : List TallyRecord) → Grouped s i gs → i < length s → length s < 2 ^ 32 → (last_of gs).times + 1 < 2 ^ 32
+grouped_room s i [] g within few = omega arith
+grouped_room s i (r ∷ rs) g within few =
+    omega (arith, get_or-le-sum_by (λ (q : TallyRecord). q.times) (r ∷ rs) (length (r ∷ rs) - 1) (group 0 0) (omega arith), g.counted.adds_up, length-take-le i s (omega arith))
+
 -- a number above all of a list does not occur in it
 never : (x : ℕ) (xs : List ℕ) → All (λ m. m < x) xs → times x xs ≡ 0
 never x [] h = refl
@@ -148,3 +155,26 @@ module _ (s : List ℕ) (i : ℕ) (gs : List TallyRecord) (rising : IsNonDecreas
           let far = rising k (i - 1) 0 (omega arith) (omega arith) in
           let here = get_or-take i s k 0 (omega arith) in
           omega arith
+
+  pub grouped_more : (after : List TallyRecord) → Noted gs (get_or s i 0) after → Grouped s (i + 1) after
+  grouped_more after (inl g) =
+      let x = get_or s i 0 in
+      let j = length gs - 1 in
+      let here : j < length gs = omega (arith, g.some) in
+      record {
+        counted = subst (λ l. Counted l after) (sym (take_more s i 0 within)) (subst (Counted (take i s ++ (x ∷ []))) (sym g.is) (counted_more (take i s) gs x old.counted j (group 0 0) here g.same));
+        some = λ _. rw (g.is, length-set) g.some;
+        last = λ _. rw (g.is, length-set, get_or-set_same gs j (group x ((last_of gs).times + 1)) (group 0 0) here) (ap (λ k. get_or s k 0) (omega arith));
+      }
+  grouped_more after (inr b) =
+      let x = get_or s i 0 in
+      record {
+        counted = subst (λ l. Counted l after) (sym (take_more s i 0 within)) (subst (Counted (take i s ++ (x ∷ []))) (sym b.is) (counted_new (take i s) gs x old.counted (fresh b.other)));
+        some = λ _. rw b.is (omega (arith, length_push gs (group x 1)));
+        last = λ _. rw (b.is, get_or_push gs (group x 1) (group 0 0) (length (gs ++ (group x 1 ∷ [])) - 1) (omega (arith, length_push gs (group x 1)))) (ap (λ k. get_or s k 0) (omega arith));
+      }
+
+-- what is read at the last index is the last group
+pub last_read : (gs : List TallyRecord) (k : ℕ) (r : TallyRecord) → k ≡ length gs → 0 < k → r ≡ get_or gs (k - 1) r → r ≡ last_of gs
+last_read gs k r whole some is =
+    is ∙ get_or_default gs (k - 1) r (group 0 0) (omega arith) ∙ ap (λ n. get_or gs (n - 1) (group 0 0)) whole

@@ -1,19 +1,11 @@
 -- Sums over records of which each number of a list has one. Assumes nothing.
-use Rattle.std.proofs.Common.{◌≡◌, ℕ, ◌+◌, ◌<◌, Bool, true, false, cond, eqb, ltb, List, [], ◌∷◌, length, sum_by, refl, ap, ◌∙◌, arith}
+use Rattle.std.proofs.Common.{◌≡◌, ℕ, ◌+◌, ◌<◌, Bool, true, false, cond, eqb, ltb, List, [], ◌∷◌, sum_by, refl, ap, ◌∙◌, arith}
 use Rattle.tallies.specs.Tallies.{times, records_for, different}
 use Rattle.tallies.specs.declared.records.TallyRecord.{TallyRecord}
 use Rattle.std.proofs.lemmas.Bool.{eq-eqb, ltb-true, ltb-false}
-use Rattle.std.proofs.lemmas.List.Elements.{All-head, All-tail}
 use Rattle.std.proofs.lemmas.List.Sums.{sum_by-cons}
 use Rattle.std.proofs.lemmas.Bool.Decides.{nat_tests}
 use Rattle.std.specs.Cmp.{nat_eq_equiv}
-use Rattle.std.specs.List.{All}
-
--- sums of equal terms are equal
-pub sum_by_same : {X : Type 0} (f g : X → ℕ) (xs : List X) → All (λ x. f x ≡ g x) xs → sum_by f xs ≡ sum_by g xs
-sum_by_same f g [] e = refl
-sum_by_same f g (x ∷ xs) e =
-    omega (arith, sum_by-cons f x xs, sum_by-cons g x xs, All-head (λ y. f y ≡ g y) x xs e, sum_by_same f g xs (All-tail (λ y. f y ≡ g y) x xs e))
 
 -- a sum of two terms is two sums
 sum_by_both : {X : Type 0} (f g h : X → ℕ) → ((x : X) → h x ≡ f x + g x) → (xs : List X) → sum_by h xs ≡ sum_by f xs + sum_by g xs
@@ -42,13 +34,6 @@ one_first n ns rs one = one n (rw (times_cons n n ns, eq-eqb n n refl) (omega ar
 one_others : (n : ℕ) (ns : List ℕ) (rs : List TallyRecord) → OneEach (n ∷ ns) rs → OneEach ns rs
 one_others n ns rs one m h = one m (omega (arith, times_cons m n ns))
 
--- what the records count comes to all of the list
-pub all_counted : (ns : List ℕ) (rs : List TallyRecord) → OneEach ns rs → sum_by (λ (r : TallyRecord). times r.number ns) rs ≡ length ns
-all_counted [] rs one = sum_by_zeros rs
-all_counted (n ∷ ns) rs one =
-    let both = sum_by_both (λ (r : TallyRecord). cond (eqb n r.number) 1 0) (λ (r : TallyRecord). times r.number ns) (λ (r : TallyRecord). times r.number (n ∷ ns)) (λ r. times_cons r.number n ns) rs in
-    omega (arith, one_first n ns rs one, all_counted ns rs (one_others n ns rs one))
-
 module _ (n : ℕ) (ns : List ℕ) where
   -- one number more of a list that has it changes nothing
   has_known : 0 < times n ns → (m : ℕ) → has (n ∷ ns) m ≡ has ns m
@@ -58,7 +43,7 @@ module _ (n : ℕ) (ns : List ℕ) where
   has_new : times n ns ≡ 0 → (m : ℕ) → has (n ∷ ns) m ≡ cond (eqb n m) 1 0 + has ns m
   has_new none m = grind (arith, nat_tests, times_cons m n ns)
 
--- and how many of them are of the list is how many different numbers it has
+-- how many of the records are of the list is how many different numbers it has
 pub all_different : (ns : List ℕ) (rs : List TallyRecord) → OneEach ns rs → sum_by (λ (r : TallyRecord). has ns r.number) rs ≡ different ns
 all_different [] rs one = sum_by_zeros rs
 all_different (n ∷ ns) rs one = go (all_different ns rs (one_others n ns rs one)) (ltb 0 (times n ns)) refl

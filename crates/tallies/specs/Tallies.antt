@@ -37,3 +37,7 @@ Answered ns before after (Ok n) =
     (n ≡ different ns) × (n ≤ length before) × Tallied ns (take n after) × (drop n after ≡ drop n before)
 Answered ns before after (Err f) =
     (after ≡ before) × (((f ≡ refusal 17) × (length before < different ns)) ⊎ (f ≡ refusal 24))
+
+-- why a table does not take a tally: it has too few records, or there is no memory
+abbrev pub Untallied : List ℕ → List TallyRecord → Refusal → Type 0
+Untallied ns table f = ((f ≡ refusal 17) × (length table < different ns)) ⊎ (f ≡ refusal 24)

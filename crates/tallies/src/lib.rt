@@ -5,4 +5,4 @@ mod records;
 mod tallying;
 
 pub use records::TallyRecord;
-pub use tallying::{tally, tally_records};
+pub use tallying::{blank_records, tally, tally_records, tally_within};

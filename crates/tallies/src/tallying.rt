@@ -1,16 +1,14 @@
 //! The tally of a run.
 ghost use Rattle.kinds.specs.Refusals.{OrNoMemory};
-ghost use Rattle.std.specs.BTreeMap.{IsOrdered};
-ghost use Rattle.std.specs.Ordering.{nat_cmp};
-ghost use Rattle.std.specs.Prelude.{◌≡◌, ◌^◌, ◌<◌, IfOk, map, length};
-ghost use Rattle.tallies.specs.Counts.{Counts, record_of, Written};
-ghost use Rattle.tallies.specs.Tallies.{Answered, Tallied};
+ghost use Rattle.std.specs.List.Sorted.{IsNonDecreasing};
+ghost use Rattle.std.specs.Prelude.{◌≡◌, ◌+◌, ◌^◌, ◌<◌, IfOk, MatchResult, map, length};
+ghost use Rattle.tallies.specs.Groups.{Noted, Written, last_of};
+ghost use Rattle.tallies.specs.Tallies.{Answered, Tallied, Untallied};
 
 use crate::records::TallyRecord;
 use kinds::Refusal;
 use runs::{Run, numbers_of};
 use std::alloc::{AllocError, Global};
-use std::collections::BTreeMap;
 
 /// Writes one record for each different number of the run, with how often it occurs, into the
 /// front of `records`, and answers how many. Refused with 17 when there are too few records, and
@@ -20,8 +18,8 @@ use std::collections::BTreeMap;
 pub fn tally<R: Run>(heap: Global, run: &R, records: &mut [TallyRecord]) -> Result<u32, Refusal>
     ensures { Answered (map R.Entry.Kind.number (R.Run.entries run.now)) records.old records.new result }
 {
-    let tallied = tally_records(heap, run)?;
-    write_front(records, tallied.as_slice())
+    let counts = counted(heap, run)?;
+    write_front(records, counts.as_slice())
 }
 
 /// One record for each different number of the run, with how often it occurs. Refused with 24, and
@@ -29,32 +27,70 @@ pub fn tally<R: Run>(heap: Global, run: &R, records: &mut [TallyRecord]) -> Resu
 pub fn tally_records<R: Run>(heap: Global, run: &R) -> Result<Vec<TallyRecord>, Refusal>
     ensures { OrNoMemory result (λ v. Tallied (map R.Entry.Kind.number (R.Run.entries run.now)) v.items) }
 {
-    let numbers = numbers_of(heap, run)?;
-    let counts = counted(heap, numbers.as_slice())?;
-    Ok(as_records(heap, &counts)?)
+    let table = blank_records(heap, run)?;
+    tally_within(heap, run, table)
 }
 
-// How often each number occurs.
-fn counted(heap: Global, numbers: &[u32]) -> Result<BTreeMap<u32, u32>, AllocError>
-    requires { length numbers.now < 2 ^ 32 }
-    ensures { IfOk result (Counts numbers.now) }
+/// The same, in a table of records from the caller, whatever it holds. Refused with 17 when it has
+/// fewer records than the run has different numbers, and only then, or with 24 for want of memory.
+pub fn tally_within<R: Run>(
+    heap: Global,
+    run: &R,
+    table: Vec<TallyRecord>,
+) -> Result<Vec<TallyRecord>, Refusal>
+    ensures { MatchResult result (λ v. Tallied (map R.Entry.Kind.number (R.Run.entries run.now)) v.items) (Untallied (map R.Entry.Kind.number (R.Run.entries run.now)) table.items) }
 {
-    let mut counts = BTreeMap::new(heap);
-    for number in numbers {
-        *counts.entry(*number)?.or_insert(0) += 1;
+    let mut records = table;
+    let used = tally(heap, run, records.as_mut_slice())?;
+    records.truncate(used as usize);
+    Ok(records)
+}
+
+/// A table of blank records, one for each entry of the run, so that its tally fits. Fails only for
+/// want of memory.
+pub fn blank_records<R: Run>(heap: Global, run: &R) -> Result<Vec<TallyRecord>, AllocError>
+    ensures { IfOk result (λ v. length v.items ≡ length (R.Run.entries run.now)) }
+{
+    let none = TallyRecord {
+        number: 0,
+        times: 0,
+    };
+    vec![in heap; none; run.count() as usize]
+}
+
+// The records of a run. The numbers are sorted, since a map that counts them one at a time takes
+// three times as long.
+fn counted<R: Run>(heap: Global, run: &R) -> Result<Vec<TallyRecord>, Refusal>
+    ensures { OrNoMemory result (λ v. Tallied (map R.Entry.Kind.number (R.Run.entries run.now)) v.items) }
+{
+    let mut numbers = numbers_of(heap, run)?;
+    numbers.sort_unstable();
+    Ok(grouped(heap, numbers.as_slice())?)
+}
+
+// A record for each different number of a list that rises.
+fn grouped(heap: Global, sorted: &[u32]) -> Result<Vec<TallyRecord>, AllocError>
+    requires rising { IsNonDecreasing sorted.now }
+    requires few { length sorted.now < 2 ^ 32 }
+    ensures { IfOk result (λ v. Tallied sorted.now v.items) }
+{
+    let mut groups = Vec::new(heap);
+    for number in sorted {
+        note(&mut groups, *number)?;
     }
-    Ok(counts)
+    Ok(groups)
 }
 
-// A record for each number that is counted.
-fn as_records(heap: Global, counts: &BTreeMap<u32, u32>) -> Result<Vec<TallyRecord>, AllocError>
-    ensures each { IfOk result (λ v. v.items ≡ map record_of counts.now.entries) }
-    ensures apart { IsOrdered nat_cmp counts.now }
+// One number more: the last group grows by one if it is that number's, else a new one begins.
+fn note(groups: &mut Vec<TallyRecord>, number: u32) -> Result<(), AllocError>
+    requires { (last_of (groups.old.items)).times + 1 < 2 ^ 32 }
+    ensures { IfOk result (λ _. Noted groups.old.items number groups.new.items) }
 {
-    counts
-        .iter()
-        .map(|(&number, &times)| TallyRecord { number, times })
-        .collect(heap)
+    match groups.last_mut() {
+        Some(last) if last.number == number => last.times += 1,
+        _ => groups.push(TallyRecord { number, times: 1 })?,
+    }
+    Ok(())
 }
 
 // Copies all of `counts` to the front of `records`, if there are so many.

@@ -4,7 +4,7 @@ use runs::{Excerpt, Run};
 use std::alloc::Global;
 use std::process::Abort;
 use std::test::Fail;
-use tallies::{TallyRecord, tally, tally_records};
+use tallies::{TallyRecord, blank_records, tally, tally_records, tally_within};
 use trials::Notch;
 
 const BLANK: TallyRecord = TallyRecord {
@@ -66,6 +66,20 @@ fn tallies_of_steps_flags_and_faults(rt: HostRuntime) -> Result<(), Fail> {
     tallies(&rt, heap, &notches, &[(3, 2), (1, 1)])?;
     let none: &[Counts] = &[];
     tallies(&rt, heap, &none, &[])
+}
+
+#[test]
+fn a_table_is_cut_to_its_tally(rt: HostRuntime) -> Result<(), Fail> {
+    let heap = rt.alloc();
+    let entries = [7, 3, 7].map(Counts::from);
+    let table = blank_records(heap, &entries.as_slice())?;
+    assert_eq!(rt; table.len(), 3);
+    let tally = tally_within(heap, &entries.as_slice(), table)?;
+    has_just(&rt, tally.as_slice(), &[(7, 2), (3, 1)]);
+    let short = vec![in heap; BLANK; 1]?;
+    let refused = tally_within(heap, &entries.as_slice(), short);
+    assert_eq!(rt; refused.err(), Some(Refusal::NoRoom));
+    Ok(())
 }
 
 #[test]

@@ -4,7 +4,7 @@ use Rattle.kinds.specs.Totals.{total}
 use Rattle.runs.proofs.Summing.{total_past, total_there}
 use Rattle.runs.proofs.walk.total.Goals as goal
 use Rattle.runs.specs.Places.{left}
-use Rattle.std.proofs.Common.{Ok, sym, ap, ◌∙◌, arith}
+use Rattle.std.proofs.Common.{Ok, sym, ap, ◌∙◌, rules, arith}
 use Rattle.std.proofs.lemmas.Iterator.{YieldsList-from_take}
 use Rattle.std.proofs.lemmas.Iterator.Consumers.{YieldsList-from_first, YieldsList-end}
 use Rattle.std.proofs.lemmas.List.{map-id}
@@ -14,8 +14,8 @@ returns-then-i-count g c = sym (total_past g.R.Entry.Reckoned _ c.args.i (omega 
 
 pub loop-entry-preserved : goal.loop-entry-preserved
 loop-entry-preserved g c =
-    let R = g.R.Entry.Reckoned in
-    (tt, tt, c.join-sum.ensures ∙ ap (λ t. R.join t c.in-Some.entry) c.loop-entry.invariant.2 ∙ sym (total-push (group_of g.met.R.Entry.Reckoned) c.loop-entry.yielded c.in-Some.entry))
+    let more = total-push (group_of g.met.R.Entry.Reckoned) c.loop-entry.yielded c.in-Some.entry in
+    search rules
 
 pub returns : goal.returns
 returns g c =

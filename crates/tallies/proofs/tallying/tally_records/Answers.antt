@@ -1,6 +1,10 @@
-use Rattle.tallies.proofs.Counting.{tallied}
+use Rattle.std.proofs.Common.{arith}
+use Rattle.std.proofs.lemmas.List.{length-map}
+use Rattle.std.proofs.lemmas.Result.{MatchResult-weaker}
+use Rattle.tallies.proofs.Distinct.{enough}
 use Rattle.tallies.proofs.tallying.tally_records.Goals as goal
 
 pub returns : goal.returns
 returns g c =
-    tallied c.in_ok-counts.ensures c.as_records.ensures.apart c.in_ok-as_records.ensures.each (cc c.in_ok-numbers.ensures)
+    let whole = length-map (g.R.Run.entries c.args.run.now) g.R.Entry.Kind.number in
+    MatchResult-weaker c.tally_within.result c.tally_within.ensures (λ v t. t) (λ f u. enough _ _ f (omega (arith, whole, c.in_ok-table.ensures)) u)

@@ -1,4 +1,4 @@
-use Rattle.std.proofs.Common.{◌≡◌, ◌≤◌, map, length, take, vec_items}
+use Rattle.std.proofs.Common.{◌≡◌, ◌≤◌, map, length, take, vec_capacity, vec_items, vec_len}
 use Rattle.kinds.specs.Totals.{total}
 use Rattle.runs.proofs.totals.Totals.over.Given as goal
 use Rattle.std.specs.List.{range_with_len}
@@ -12,3 +12,5 @@ invariant-loop-entry g l =
     × (n ≤ length xs)
     × (l.sum ≡ total g.K.Reckoned (take n xs))
     × (vec_items l.joins ≡ map (λ j. total g.K.Reckoned (take j xs)) (range_with_len 1 n))
+    × (vec_len l.joins ≡ n)
+    × (length xs ≤ vec_capacity l.joins)
