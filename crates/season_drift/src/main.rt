@@ -32,11 +32,6 @@ struct Season {
     has_drives_alone: bool,
 }
 
-// Whether a log has drives alone, and none of the words of a changeover.
-fn has_drives_alone(lines: &[LogLine]) -> bool {
-    lines.iter().all(|line| matches!(line, LogLine::Drive(_)))
-}
-
 fn main(rt: HostRuntime) -> anyhow::Result<()> {
     run(&rt)
 }
@@ -78,22 +73,23 @@ fn compare(rt: &HostRuntime, first: &str, second: &str, copy: Option<&str>) -> a
     Ok(())
 }
 
-// Reads a log, replays it and prints its book, or which line of it was refused.
+// Reads a log, replays it and prints its book, or which line of it was refused. What is not needed
+// further is let go before more memory is asked for.
 fn season_of(rt: &HostRuntime, name: &str) -> anyhow::Result<Option<Season>> {
-    let bytes = fs::read(rt, name)?;
-    match read_log(rt.alloc(), bytes.as_slice()) {
+    match lines_of(rt, name)? {
         Ok(lines) => {
+            let (replayed, has_drives_alone) = replayed(rt, lines)?;
             let Replayed {
                 book,
                 total,
                 answers,
-            } = replay_log(rt.alloc(), UNIT, lines.as_slice())?;
-            show_refused(rt, name, answers.as_slice())?;
+            } = replayed;
+            show_refused(rt, name, answers)?;
             show_book(rt, name, &book, total)?;
             Ok(Some(Season {
                 book,
                 total,
-                has_drives_alone: has_drives_alone(lines.as_slice()),
+                has_drives_alone,
             }))
         }
         Err(bad) => {
@@ -103,8 +99,22 @@ fn season_of(rt: &HostRuntime, name: &str) -> anyhow::Result<Option<Season>> {
     }
 }
 
-// Prints the lines that the book refused.
-fn show_refused(rt: &HostRuntime, name: &str, replies: &[Reply]) -> anyhow::Result<()> {
+// The lines of a log, whose bytes are let go.
+fn lines_of(rt: &HostRuntime, name: &str) -> anyhow::Result<Result<Vec<LogLine>, BadLine>> {
+    let bytes = fs::read(rt, name)?;
+    Ok(read_log(rt.alloc(), bytes.as_slice()))
+}
+
+// Replays the lines of a log, which are let go, and tells whether they are drives alone and none of
+// the words of a changeover.
+fn replayed(rt: &HostRuntime, lines: Vec<LogLine>) -> anyhow::Result<(Replayed<Steps>, bool)> {
+    let replayed = replay_log(rt.alloc(), UNIT, lines.as_slice())?;
+    let has_drives_alone = lines.iter().all(|line| matches!(line, LogLine::Drive(_)));
+    Ok((replayed, has_drives_alone))
+}
+
+// Prints the lines that the book refused, and lets what was answered go.
+fn show_refused(rt: &HostRuntime, name: &str, replies: Vec<Reply>) -> anyhow::Result<()> {
     for (before, answer) in replies.iter().enumerate() {
         if let Err(refusal) = *answer {
             let line = before as u64 + 1;
