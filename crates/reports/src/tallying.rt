@@ -2,8 +2,8 @@
 ghost use Rattle.kinds.specs.Refusals.{OrNoMemory};
 ghost use Rattle.kinds.specs.Steps.{numbering};
 ghost use Rattle.reports.specs.Tally.{CountsEach, IsOfEntry, record_of};
-ghost use Rattle.std.specs.Prelude.{◌≡◌, All, IfOk, MatchResult, map};
-ghost use Rattle.tallies.specs.Tallies.{Untallied};
+ghost use Rattle.std.specs.Prelude.{◌≡◌, ◌≤◌, All, IfOk, MatchResult, length, map};
+ghost use Rattle.tallies.specs.Tallies.{Untallied, different};
 
 use crate::counted::Counted;
 use kinds::{Kind, Refusal, Steps};
@@ -27,7 +27,8 @@ pub fn tally_with<R: Run<Entry = Steps>>(
     run: &R,
     table: Vec<TallyRecord>,
 ) -> Result<Vec<Counted>, Refusal>
-    ensures { MatchResult result (λ v. CountsEach (R.Run.entries run.now) v.items) (Untallied (map numbering.number (R.Run.entries run.now)) table.items) }
+    ensures counts { MatchResult result (λ v. CountsEach (R.Run.entries run.now) v.items) (Untallied (map numbering.number (R.Run.entries run.now)) table.items) }
+    ensures fits { IfOk result (λ _. different (map numbering.number (R.Run.entries run.now)) ≤ length table.items) }
 {
     let records = tally_within(heap, run, table)?;
     let mut counts = counted(heap, records.as_slice())?;

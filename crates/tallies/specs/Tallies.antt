@@ -41,3 +41,7 @@ Answered ns before after (Err f) =
 -- why a table does not take a tally: it has too few records, or there is no memory
 abbrev pub Untallied : List ℕ → List TallyRecord → Refusal → Type 0
 Untallied ns table f = ((f ≡ refusal 17) × (length table < different ns)) ⊎ (f ≡ refusal 24)
+
+-- a record of nothing
+abbrev pub blank : TallyRecord
+blank = record { number = 0; times = 0 }

@@ -1,9 +1,9 @@
 //! The tally of a run.
 ghost use Rattle.kinds.specs.Refusals.{OrNoMemory};
 ghost use Rattle.std.specs.List.Sorted.{IsNonDecreasing};
-ghost use Rattle.std.specs.Prelude.{◌≡◌, ◌+◌, ◌^◌, ◌<◌, IfOk, MatchResult, map, length};
+ghost use Rattle.std.specs.Prelude.{◌≡◌, ◌+◌, ◌^◌, ◌<◌, ◌≤◌, IfOk, MatchResult, map, length, replicate};
 ghost use Rattle.tallies.specs.Groups.{Noted, Written, last_of};
-ghost use Rattle.tallies.specs.Tallies.{Answered, Tallied, Untallied};
+ghost use Rattle.tallies.specs.Tallies.{Answered, Tallied, Untallied, blank, different};
 
 use crate::records::TallyRecord;
 use kinds::Refusal;
@@ -38,7 +38,8 @@ pub fn tally_within<R: Run>(
     run: &R,
     table: Vec<TallyRecord>,
 ) -> Result<Vec<TallyRecord>, Refusal>
-    ensures { MatchResult result (λ v. Tallied (map R.Entry.Kind.number (R.Run.entries run.now)) v.items) (Untallied (map R.Entry.Kind.number (R.Run.entries run.now)) table.items) }
+    ensures tallies { MatchResult result (λ v. Tallied (map R.Entry.Kind.number (R.Run.entries run.now)) v.items) (Untallied (map R.Entry.Kind.number (R.Run.entries run.now)) table.items) }
+    ensures fits { IfOk result (λ _. different (map R.Entry.Kind.number (R.Run.entries run.now)) ≤ length table.items) }
 {
     let mut records = table;
     let used = tally(heap, run, records.as_mut_slice())?;
@@ -49,7 +50,8 @@ pub fn tally_within<R: Run>(
 /// A table of blank records, one for each entry of the run, so that its tally fits. Fails only for
 /// want of memory.
 pub fn blank_records<R: Run>(heap: Global, run: &R) -> Result<Vec<TallyRecord>, AllocError>
-    ensures { IfOk result (λ v. length v.items ≡ length (R.Run.entries run.now)) }
+    ensures enough { IfOk result (λ v. length v.items ≡ length (R.Run.entries run.now)) }
+    ensures each { IfOk result (λ v. v.items ≡ replicate (length (R.Run.entries run.now)) blank) }
 {
     let none = TallyRecord {
         number: 0,

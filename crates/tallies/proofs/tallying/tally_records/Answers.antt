@@ -7,4 +7,4 @@ use Rattle.tallies.proofs.tallying.tally_records.Goals as goal
 pub returns : goal.returns
 returns g c =
     let whole = length-map (g.R.Run.entries c.args.run.now) g.R.Entry.Kind.number in
-    MatchResult-weaker c.tally_within.result c.tally_within.ensures (λ v t. t) (λ f u. enough _ _ f (omega (arith, whole, c.in_ok-table.ensures)) u)
+    MatchResult-weaker c.tally_within.result c.tally_within.ensures.tallies (λ v t. t) (λ f u. enough _ _ f (omega (arith, whole, c.in_ok-table.ensures.enough)) u)
